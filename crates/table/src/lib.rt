@@ -1,0 +1,8 @@
+//! The tables of what is to happen later: one text of a table for every kind of entry, over a row of places that is
+//! lent for each call; the timers and delays; the clock of the day.
+
+pub mod clock;
+pub mod entry;
+pub mod firing;
+pub mod row;
+pub mod timer;
