@@ -8,7 +8,7 @@ use native.Mathlib.Omega.{arith}
 use native.Mathlib.Nat.{add-zero}
 use Rattle.std.specs.shelf.Lists.{kept-by, joined}
 use Rattle.std.specs.Iters.{folded}
-use Rattle.std.proofs.shelf.Lists.{take-more, take-more-set, drop-set-lt, take-all, getD-drop, drop-drop, length-set, append-nil}
+use Rattle.std.proofs.shelf.Lists.{take-more, take-more-set, drop-set-lt, take-all, getD-drop, drop-drop, length-set, append-nil, set-getD}
 use Rattle.std.proofs.shelf.Elements.{kept-by-append}
 use Rattle.std.specs.declared.option.Option.{Option}
 use Rattle.std.specs.declared.option.Option.the-variants.{Some, None}
@@ -60,6 +60,13 @@ module _ {P : Type 0} {live : P → Bool} {f : P → List P} {xs ys : List P} {i
         rest = drop-set-lt (i + 1) ys i q lt1 ∙ sym (drop-drop 1 i ys) ∙ ap (drop 1) (b .rest) ∙ drop-drop 1 i xs;
         long = length-set ys i q ∙ b .long;
       }
+
+  -- the place is left as it is
+  pub going-same : Going live f xs ys i → i < length ys → (p : P) → p ≡ getD ys i p →
+      entries live (p ∷ []) ≡ joined f (entries live (p ∷ [])) → Going live f xs ys (i + 1)
+  going-same b lt p is e =
+      let back : set ys i p ≡ ys = ap (set ys i) is ∙ set-getD ys i p in
+      subst (λ zs. Going live f xs zs (i + 1)) back (going-more b lt p is p e)
 
   pub going-all : Going live f xs ys i → length xs ≤ i → entries live ys ≡ joined f (entries live xs)
   going-all b le =

@@ -1,2 +1,3 @@
 pub mod Beats
 pub mod Packs
+pub mod Removes

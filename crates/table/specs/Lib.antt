@@ -1,4 +1,5 @@
 pub mod Ranges
 pub mod Rows
 pub mod Timers
+pub mod Wakes
 pub mod Clocks

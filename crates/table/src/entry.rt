@@ -5,9 +5,11 @@ ghost use mathlib.Core.Bool.{Bool, true, false};
 ghost use Rattle.std.specs.Options.{Cases as BySome};
 ghost use Rattle.std.specs.declared.option.Option.{Option};
 ghost use Rattle.table.specs.declared.firing.Firing.{Firing};
+ghost use Rattle.table.specs.declared.selection.Selection.{Selection};
 ghost use Rattle.table.specs.Ranges.{InRangeIf};
 ghost use Rattle.table.specs.Rows.{placed};
 use crate::firing::Firing;
+use crate::selection::Selection;
 
 // What a beat made of an entry: what is left of it, and what it asks for.
 #[derive(Drop)]
@@ -40,6 +42,9 @@ pub trait TableEntry: Copy {
 
     ghost fires: { Self·Beat → Self·Place → Option Firing };
 
+    // Whether a removal takes an entry.
+    ghost chosen: { Selection → Self·Place → Bool };
+
     law freed: { live vacant ≡ false };
 
     law stands: { (e : Self) → live (place e) ≡ true };
@@ -57,4 +62,7 @@ pub trait TableEntry: Copy {
         ensures left { λ r. ⌜ placed place (r .left) ≡ after beat (place self) ⌝ }
         ensures firing { λ r. ⌜ r .firing ≡ fires beat (place self) ⌝ }
         ensures ranged { λ r. ⌜ InRangeIf (r .firing) ⌝ };
+
+    fn is_selected(self, by: Selection) -> bool
+        ensures { λ r. ⌜ r ≡ chosen by (place self) ⌝ };
 }

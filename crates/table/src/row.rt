@@ -2,16 +2,18 @@
 //! acceptance, whatever the places they stand in; nothing is asked of what a place holds.
 
 ghost use mathlib.Core.Path.{_≡_};
-ghost use mathlib.Core.Bool.{cond};
+ghost use mathlib.Core.Bool.{false, not, cond};
 ghost use mathlib.Core.List.{[], _∷_, _++_};
 ghost use Prim.Native.Nat.{_≤_};
 ghost use lib.Dec.{ltb};
 ghost use lib.ListN.{length, take, drop};
+ghost use Rattle.std.specs.shelf.Lists.{kept-by};
 ghost use Rattle.sheet.specs.Sheets.{written};
 ghost use Rattle.table.specs.Rows.{entries, lefts, listed, firings, allFired, allTold};
 use crate::entry::Beaten;
 use crate::entry::TableEntry;
 use crate::firing::Target;
+use crate::selection::Selection;
 use sheet::Event;
 
 // What a beat made of one place: what stands there then, and the event told.
@@ -123,4 +125,30 @@ pub fn add<E: TableEntry>(places: &mut [E::Place], entry: E) -> bool
     } else {
         false
     }
+}
+
+// Whether a removal takes what stands in a place.
+fn takes<E: TableEntry>(p: E::Place, by: Selection) -> bool
+    ensures { λ r. ⌜ r ≡ cond (E·TableEntry .live p) (E·TableEntry .chosen by p) false ⌝ }
+{
+    match E::from_place(p) {
+        Some(entry) => entry.is_selected(by),
+        None => false,
+    }
+}
+
+// Removes every entry that is selected; answers how many there were.
+pub fn remove<E: TableEntry>(places: &mut [E::Place], by: Selection) -> usize
+    ensures entries { λ _. ⌜ entries (E·TableEntry .live) (now (places .exit)) ≡ kept-by (λ p. not (E·TableEntry .chosen by p)) (entries (E·TableEntry .live) (now (places .entry))) ⌝ }
+    ensures count { λ r. ⌜ r ≡ length (kept-by (E·TableEntry .chosen by) (entries (E·TableEntry .live) (now (places .entry)))) ⌝ }
+{
+    let mut count = 0;
+    for i in 0..places.len() {
+        let p = places[i];
+        if takes::<E>(p, by) {
+            places[i] = E::free();
+            count += 1;
+        }
+    }
+    count
 }

@@ -1,5 +1,5 @@
 ghost use mathlib.Core.Path.{_≡_};
-ghost use Rattle.table.specs.Clocks.{nextMilli, fullSecond};
+ghost use Rattle.table.specs.Clocks.{nextMilli, fullSecond, secondSet};
 use crate::clock::Clock;
 
 impl Clock {
@@ -21,6 +21,15 @@ impl Clock {
             Some(millis / 1000)
         } else {
             None
+        }
+    }
+
+    // The beginning of a second of the day; a number of 86,400 or more is no second, and the clock stays.
+    pub fn set(&mut self, second: u32)
+        ensures { λ _. ⌜ now (self .exit) .millis ≡ secondSet second (now (self .entry) .millis) ⌝ }
+    {
+        if second < 86_400 {
+            self.millis = second * 1000;
         }
     }
 }

@@ -5,10 +5,11 @@ ghost use Rattle.std.specs.declared.option.Option.{Option};
 ghost use Rattle.std.specs.Options.{Cases as BySome};
 ghost use Rattle.table.specs.Rows.{placed};
 ghost use Rattle.table.specs.Ranges.{InRangeIf};
-ghost use Rattle.table.specs.Timers.{placeOf, standing, noTimer, timerAfter, timerFires, delayPlace, withWait};
+ghost use Rattle.table.specs.Timers.{placeOf, standing, noTimer, timerAfter, timerFires, delayPlace, timerPlace, withWait, timerSelected};
 use crate::entry::Beaten;
 use crate::entry::TableEntry;
 use crate::firing::Firing;
+use crate::selection::Selection;
 use crate::timer::Timer;
 use crate::timer::TimerPlace;
 
@@ -24,6 +25,20 @@ impl Timer {
             factor: 0,
             wait,
             cycle: 0,
+        }
+    }
+
+    // A timer of a task and a factor. The station has tested both by then.
+    pub fn timer(task: u8, factor: u8, wait: u32, cycle: u32) -> Timer
+        requires { ⌜ (1 ≤ task) × (task ≤ 127) × (factor ≤ 16) ⌝ }
+        ensures { λ r. ⌜ placeOf r ≡ timerPlace task factor wait cycle ⌝ }
+    {
+        Timer {
+            delay: false,
+            task,
+            factor,
+            wait,
+            cycle,
         }
     }
 
@@ -57,6 +72,8 @@ pub impl TableEntry for Timer as TimerEntry {
     ghost after = { λ _ p. timerAfter p };
 
     ghost fires = { λ _ p. timerFires p };
+
+    ghost chosen = { timerSelected };
 
     fn free() -> TimerPlace {
         TimerPlace {
@@ -117,6 +134,12 @@ pub impl TableEntry for Timer as TimerEntry {
         Beaten {
             left: Some(left),
             firing,
+        }
+    }
+    fn is_selected(self, by: Selection) -> bool {
+        match by {
+            Selection::Set { task, factor } => !self.delay && self.task == task && self.factor == factor,
+            Selection::Delay { task } => self.delay && self.task == task,
         }
     }
 }
