@@ -1,0 +1,3 @@
+pub mod PlaceFacts
+pub mod Walks
+pub mod RowFacts

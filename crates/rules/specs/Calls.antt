@@ -1,0 +1,55 @@
+-- What every call does: what comes back, by the table of refusals or by the effect of an obeyed call.
+use mathlib.Core.Path.{_≡_}
+use mathlib.Core.Bool.{Bool, cond}
+use mathlib.Core.List.{List, [], _∷_}
+use Prim.Native.Nat.{ℕ}
+use lib.Dec.{eqb}
+use lib.ListN.{length}
+use Rattle.sheet.specs.declared.event.Event.{Event}
+use Rattle.sheet.specs.Sheets.{written}
+use Rattle.roll.specs.Tables.{none}
+use Rattle.roll.specs.Entries.{awake}
+use Rattle.rules.specs.declared.answer.Code.the-variants.{Done}
+use Rattle.rules.specs.declared.answer.Answer.{Answer}
+use Rattle.rules.specs.declared.call.Call.{Call}
+use Rattle.rules.specs.declared.call.Call.the-variants.{Macro, Tick, Coil}
+use Rattle.rules.specs.State.{Setup, State, Station, running}
+use Rattle.rules.specs.Tables.{ticked, tickEvents}
+use Rattle.rules.specs.Effects.{Effect, telling, starting, obeyed}
+use Rattle.rules.specs.Refusals.{Step, settled, Check, checks}
+
+-- what an obeyed call does
+abbrev pub effect : Setup → State → Call → Effect
+effect b s (Macro m) = obeyed b s (running (s .tasks)) m
+effect b s Tick = telling (ticked s) (tickEvents s)
+effect b s (Coil t) = starting s t
+
+-- the first cause that applies, or else what is done
+abbrev pub answered : List Check → Step → Step
+answered [] done = done
+answered (c ∷ cs) done = cond (c .applies) (c .back) (answered cs done)
+
+-- a call with a sheet of so many records
+abbrev pub called : Setup → State → Call → ℕ → Step
+called b s c room = answered (checks b s c room) (settled s Done (effect b s c))
+
+-- What a caller sees of a call: the station after it, the answer, and the sheet, which has the events told at its front
+-- and behind them what it held.
+pub record Performed (before : Station) (c : Call) (given : List Event) (after : Station) (a : Answer) (left : List Event) : Type 0 where
+  pub setup : after .setup ≡ before .setup
+  pub state : after .state ≡ called (before .setup) (before .state) c (length given) .state
+  pub answer : a ≡ record {
+    code = called (before .setup) (before .state) c (length given) .code;
+    told = length (called (before .setup) (before .state) c (length given) .told);
+    factor = called (before .setup) (before .state) c (length given) .factor;
+  }
+  pub sheet : left ≡ written (called (before .setup) (before .state) c (length given) .told) given
+
+-- a station just powered up: task 1 alone is released, with one accepted start, and the clock stands at 0
+abbrev pub started : Setup → State
+started b = record {
+  tasks = record { released = λ t. eqb 1 t; level = b .written; factors = λ _. none; roll = record { entries = awake 1 (b .written 1) ∷ []; held = none } };
+  timers = [];
+  wakes = [];
+  clock = 0;
+}

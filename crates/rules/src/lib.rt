@@ -1,0 +1,10 @@
+//! The rules of the calls: what can be asked of a station and what it answers, as enums, and in specs/ what each call
+//! does. The station above is proved to do just that.
+
+mod answer;
+mod call;
+
+pub use answer::Answer;
+pub use answer::Code;
+pub use call::Call;
+pub use call::Macro;

@@ -1,0 +1,16 @@
+-- What a table of tasks means, whatever roll it holds.
+use mathlib.Core.Bool.{Bool, false}
+use mathlib.Core.List.{List, []}
+use Prim.Native.Nat.{ℕ}
+use lib.ListN.{getD}
+use Rattle.roll.specs.Model.{Model}
+use Rattle.rules.specs.State.{Tasks}
+use Rattle.tasks.specs.declared.table.TaskTable.{TaskTable}
+
+abbrev pub view : {R : Type 0} → (R → Model) → TaskTable R → Tasks
+view meaning s = record {
+  released = λ t. getD (s .released) t false;
+  level = λ t. getD (s .levels) t 0;
+  factors = λ t x. getD (getD (s .factors) t []) x false;
+  roll = meaning (s .roll);
+}
