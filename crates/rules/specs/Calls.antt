@@ -3,17 +3,15 @@ use mathlib.Core.Path.{_≡_}
 use mathlib.Core.Bool.{Bool, cond}
 use mathlib.Core.List.{List, [], _∷_}
 use Prim.Native.Nat.{ℕ}
-use lib.Dec.{eqb}
 use lib.ListN.{length}
 use Rattle.sheet.specs.declared.event.Event.{Event}
 use Rattle.sheet.specs.Sheets.{written}
-use Rattle.roll.specs.Tables.{none}
-use Rattle.roll.specs.Entries.{awake}
 use Rattle.rules.specs.declared.answer.Code.the-variants.{Done}
 use Rattle.rules.specs.declared.answer.Answer.{Answer}
 use Rattle.rules.specs.declared.call.Call.{Call}
 use Rattle.rules.specs.declared.call.Call.the-variants.{Macro, Tick, Coil}
 use Rattle.rules.specs.State.{Setup, State, Station, running}
+use Rattle.rules.specs.Starts.{startedTasks}
 use Rattle.rules.specs.Tables.{ticked, tickEvents}
 use Rattle.rules.specs.Effects.{Effect, telling, starting, obeyed}
 use Rattle.rules.specs.Refusals.{Step, settled, Check, checks}
@@ -45,11 +43,6 @@ pub record Performed (before : Station) (c : Call) (given : List Event) (after :
   }
   pub sheet : left ≡ written (called (before .setup) (before .state) c (length given) .told) given
 
--- a station just powered up: task 1 alone is released, with one accepted start, and the clock stands at 0
+-- a station just powered up: nothing set, and the clock at 0
 abbrev pub started : Setup → State
-started b = record {
-  tasks = record { released = λ t. eqb 1 t; level = b .written; factors = λ _. none; roll = record { entries = awake 1 (b .written 1) ∷ []; held = none } };
-  timers = [];
-  wakes = [];
-  clock = 0;
-}
+started b = record { tasks = startedTasks (b .written); timers = []; wakes = []; clock = 0 }

@@ -83,7 +83,7 @@ abbrev pub holding : Tasks → ℕ → Bool → Tasks
 holding s t h = record { released = s .released; level = s .level; factors = s .factors; roll = record { entries = s .roll .entries; held = put (s .roll .held) t h } }
 
 -- the smallest of the n factors from x on that is set
-abbrev pub smallest : ℕ → ℕ → (ℕ → Bool) → Option ℕ
+unfoldable pub smallest : ℕ → ℕ → (ℕ → Bool) → Option ℕ
 smallest zero x f = None
 smallest (suc n) x f = cond (f x) (Some x) (smallest n (suc x) f)
 

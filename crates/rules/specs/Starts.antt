@@ -2,7 +2,7 @@
 use mathlib.Core.Bool.{Bool, true, false, _&&_, cond}
 use mathlib.Core.List.{List, [], _∷_, _++_}
 use Prim.Native.Nat.{ℕ}
-use lib.Dec.{ltb}
+use lib.Dec.{eqb, ltb}
 use lib.ListN.{replicate}
 use Rattle.sheet.specs.declared.event.Event.{Event}
 use Rattle.sheet.specs.declared.event.Kind.the-variants.{Accepted, Missed, Cut, Wakened}
@@ -62,3 +62,12 @@ stripped s t written = record {
 -- one event for each start that is cut
 abbrev pub cutEvents : Tasks → ℕ → List Event
 cutEvents s t = replicate (countIn t (s .roll)) (event Cut t)
+
+-- the tasks at power-up, with the written levels: task 1 alone is released, and has one accepted start
+abbrev pub startedTasks : (ℕ → ℕ) → Tasks
+startedTasks written = record {
+  released = λ t. eqb 1 t;
+  level = written;
+  factors = λ _. none;
+  roll = record { entries = awake 1 (written 1) ∷ []; held = none };
+}

@@ -1,1 +1,4 @@
 pub mod Nested
+pub mod Cuts
+pub mod Fires
+pub mod Smallest

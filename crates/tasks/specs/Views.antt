@@ -5,7 +5,7 @@ use Prim.Native.Nat.{ℕ}
 use lib.ListN.{getD}
 use Rattle.roll.specs.Model.{Model}
 use Rattle.rules.specs.State.{Tasks}
-use Rattle.tasks.specs.declared.table.TaskTable.{TaskTable}
+use Rattle.tasks.specs.declared.task_table.TaskTable.{TaskTable}
 
 abbrev pub view : {R : Type 0} → (R → Model) → TaskTable R → Tasks
 view meaning s = record {

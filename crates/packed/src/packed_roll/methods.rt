@@ -21,9 +21,8 @@ impl Packed {
     pub fn new() -> Packed
         ensures { λ r. ⌜ meaningOf r ≡ empty ⌝ }
     {
-        Packed {
-            entries: Row::new(),
-        }
+        let entries = Row::new();
+        Packed { entries }
     }
 
     // How many entries the task has.

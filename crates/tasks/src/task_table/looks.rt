@@ -5,7 +5,7 @@ ghost use Prim.Native.Nat.{_≤_};
 ghost use Rattle.rules.specs.State.{running};
 ghost use Rattle.rules.specs.Starts.{hasRoom};
 ghost use Rattle.tasks.specs.Views.{view};
-use crate::table::TaskTable;
+use crate::task_table::TaskTable;
 use roll::Roll;
 
 impl<R: Roll> TaskTable<R> {

@@ -7,7 +7,7 @@ use lib.ListN.{length, getD, set}
 use Rattle.rules.specs.State.{Tasks}
 use Rattle.tasks.specs.Views.{view}
 use Rattle.tasks.proofs.Nested.{mark-put}
-use Rattle.tasks.proofs.table.TaskTable.set_factor.Needs as need
+use Rattle.tasks.proofs.task_table.TaskTable.set_factor.Needs as need
 
 pub returns : need.returns
 returns g c =

@@ -15,5 +15,7 @@ pub struct TaskTable<R> {
     ghost seventeen: { (t : ℕ) → t < 128 → length (getD factors t []) ≡ 17 },
 }
 
+pub mod changes;
 pub mod looks;
+pub mod power;
 pub mod starts;
