@@ -4,6 +4,7 @@ use mathlib.Core.Bool.{Bool, cond}
 use mathlib.Core.List.{List, [], _∷_}
 use Prim.Native.Nat.{ℕ}
 use lib.ListN.{length}
+use Rattle.std.specs.declared.option.Option.the-variants.{None}
 use Rattle.sheet.specs.declared.event.Event.{Event}
 use Rattle.sheet.specs.Sheets.{written}
 use Rattle.rules.specs.declared.answer.Code.the-variants.{Done}
@@ -20,7 +21,7 @@ use Rattle.rules.specs.Refusals.{Step, settled, Check, checks}
 abbrev pub effect : Setup → State → Call → Effect
 effect b s (Macro m) = obeyed b s (running (s .tasks)) m
 effect b s Tick = telling (ticked s) (tickEvents s)
-effect b s (Coil t) = starting s t
+effect b s (Coil t) = starting s t None
 
 -- the first cause that applies, or else what is done
 abbrev pub answered : List Check → Step → Step
@@ -31,17 +32,17 @@ answered (c ∷ cs) done = cond (c .applies) (c .back) (answered cs done)
 abbrev pub called : Setup → State → Call → ℕ → Step
 called b s c room = answered (checks b s c room) (settled s Done (effect b s c))
 
--- What a caller sees of a call: the station after it, the answer, and the sheet, which has the events told at its front
--- and behind them what it held.
-pub record Performed (before : Station) (c : Call) (given : List Event) (after : Station) (a : Answer) (left : List Event) : Type 0 where
+-- What comes back is k: the station after it, the answer, and the sheet, which has the events told at its front and
+-- behind them what it held.
+pub record Comes (k : Step) (before : Station) (given : List Event) (after : Station) (a : Answer) (left : List Event) : Type 0 where
   pub setup : after .setup ≡ before .setup
-  pub state : after .state ≡ called (before .setup) (before .state) c (length given) .state
-  pub answer : a ≡ record {
-    code = called (before .setup) (before .state) c (length given) .code;
-    told = length (called (before .setup) (before .state) c (length given) .told);
-    factor = called (before .setup) (before .state) c (length given) .factor;
-  }
-  pub sheet : left ≡ written (called (before .setup) (before .state) c (length given) .told) given
+  pub state : after .state ≡ k .state
+  pub answer : a ≡ record { code = k .code; told = length (k .told); factor = k .factor }
+  pub sheet : left ≡ written (k .told) given
+
+-- what a caller sees of a call
+abbrev pub Performed : Station → Call → List Event → Station → Answer → List Event → Type 0
+Performed before c given after a left = Comes (called (before .setup) (before .state) c (length given)) before given after a left
 
 -- a station just powered up: nothing set, and the clock at 0
 abbrev pub started : Setup → State

@@ -18,7 +18,7 @@ use Rattle.table.specs.Wakes.{waitsFor}
 use Rattle.rules.specs.declared.call.Macro.{Macro}
 use Rattle.rules.specs.declared.call.Macro.the-variants.{Rleas, Queue, Abort, Delay as DelayFor, Timer, Ctime, Chap, Sfact, Gfact, Susp, Rsum, Wake, Cwake, Stime, Exit}
 use Rattle.rules.specs.State.{Setup, Tasks, State}
-use Rattle.rules.specs.Starts.{accepted, factored, slept, finished, stripped, cutEvents}
+use Rattle.rules.specs.Starts.{acceptedWith, factored, slept, finished, stripped, cutEvents}
 use Rattle.rules.specs.Tables.{timersWithout, wakesWithout, ticked, tickEvents}
 
 -- `over` says that the start which had the processor has finished; `factor` is what gfact answers
@@ -57,11 +57,9 @@ cutting b s t r = record {
   factor = 0;
 }
 
-abbrev pub starting : State → ℕ → Effect
-starting s t = telling (inTasks s (accepted (s .tasks) t)) (event Accepted t ∷ [])
-
-abbrev pub startingWith : State → ℕ → ℕ → Effect
-startingWith s t x = telling (inTasks s (factored (accepted (s .tasks) t) t x)) (event Accepted t ∷ [])
+-- a start of t is accepted, with a factor or without
+abbrev pub starting : State → ℕ → Option ℕ → Effect
+starting s t x = telling (inTasks s (acceptedWith (s .tasks) t x)) (event Accepted t ∷ [])
 
 -- the issuer r sleeps for n milliseconds
 abbrev pub sleeping : State → ℕ → ℕ → Effect
@@ -106,7 +104,7 @@ taking s r = record { state = inTasks s (without (s .tasks) r (smallestOf (s .ta
 -- a macro of the task r
 abbrev pub obeyed : Setup → State → ℕ → Macro → Effect
 obeyed b s r (Rleas t) = quiet (inTasks s (releasing (s .tasks) t))
-obeyed b s r (Queue t x) = startingWith s t x
+obeyed b s r (Queue t x) = starting s t (Some x)
 obeyed b s r (Abort t) = cond (b .registered t) (cutting b s t r) (quiet s)
 obeyed b s r (DelayFor n) = sleeping s r n
 obeyed b s r (Timer t n c x) = quiet (inTimers s (s .timers ++ (timerPlace t x n c ∷ [])))

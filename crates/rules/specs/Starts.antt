@@ -4,6 +4,8 @@ use mathlib.Core.List.{List, [], _∷_, _++_}
 use Prim.Native.Nat.{ℕ}
 use lib.Dec.{eqb, ltb}
 use lib.ListN.{replicate}
+use Rattle.std.specs.declared.option.Option.{Option}
+use Rattle.std.specs.declared.option.Option.the-variants.{Some, None}
 use Rattle.sheet.specs.declared.event.Event.{Event}
 use Rattle.sheet.specs.declared.event.Kind.the-variants.{Accepted, Missed, Cut, Wakened}
 use Rattle.sheet.specs.Events.{event}
@@ -30,6 +32,11 @@ accepted s t = rolled s (s .roll .entries ++ (awake t (s .level t) ∷ []))
 -- the factor x of t is set
 abbrev pub factored : Tasks → ℕ → ℕ → Tasks
 factored s t x = record { released = s .released; level = s .level; factors = put (s .factors) t (put (s .factors t) x true); roll = s .roll }
+
+-- a start that brings a factor, or none
+abbrev pub acceptedWith : Tasks → ℕ → Option ℕ → Tasks
+acceptedWith s t None = accepted s t
+acceptedWith s t (Some x) = factored (accepted s t) t x
 
 -- A firing works as a queue does, but a dormant task misses its start too. A rousing ends the sleep of the current start.
 abbrev pub takes : Tasks → ℕ → Bool

@@ -1,6 +1,7 @@
 //! What a call answers.
 
 ghost use mathlib.Core.Path.{_≡_};
+ghost use Rattle.rules.specs.declared.answer.Code.the-variants.{Done};
 ghost use Rattle.rules.specs.Codes.{numberOf};
 
 // That a call was obeyed, or the cause for which it was turned down. Several causes share a number.
@@ -65,3 +66,30 @@ pub struct Answer {
     pub told: usize,
     pub factor: u8,
 }
+
+impl Answer {
+    // The answer of a call that is obeyed and tells nothing.
+    pub fn done() -> Answer
+        ensures { λ r. ⌜ r ≡ record { code = Done; told = 0; factor = 0 } ⌝ }
+    {
+        Answer {
+            code: Code::Done,
+            told: 0,
+            factor: 0,
+        }
+    }
+
+    // The answer of a call that is turned down and tells nothing.
+    pub fn refused(code: Code) -> Answer
+        ensures { λ r. ⌜ r ≡ record { code = code; told = 0; factor = 0 } ⌝ }
+    {
+        Answer {
+            code,
+            told: 0,
+            factor: 0,
+        }
+    }
+}
+
+// The least number of records that a sheet must have: more than any call tells.
+pub const LEAST_SHEET: usize = 100;

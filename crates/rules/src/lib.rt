@@ -6,5 +6,6 @@ mod call;
 
 pub use answer::Answer;
 pub use answer::Code;
+pub use answer::LEAST_SHEET;
 pub use call::Call;
 pub use call::Macro;

@@ -29,4 +29,20 @@ impl<R: Roll> TaskTable<R> {
             factors: [[false; 17]; 128],
         }
     }
+
+    // Lets the table go; answers how many starts stood on its roll.
+    pub fn stop(self) -> u8
+    where
+        R: Drop,
+        ensures { λ r. ⌜ r ≡ length (view (R·Roll .meaning) self .roll .entries) ⌝ }
+    {
+        let total = self.total();
+        let TaskTable {
+            roll: _,
+            released: _,
+            levels: _,
+            factors: _,
+        } = self;
+        total
+    }
 }

@@ -6,8 +6,8 @@ ghost use mathlib.Core.Bool.{true};
 ghost use Prim.Native.Nat.{_≤_};
 ghost use Rattle.roll.specs.Model.{countIn};
 ghost use Rattle.rules.specs.State.{Tasks, running};
-ghost use Rattle.rules.specs.Starts.{hasRoom, accepted, factored, finished, slept, stripped, fired, tells};
-ghost use Rattle.tasks.specs.Views.{view};
+ghost use Rattle.rules.specs.Starts.{hasRoom, accepted, acceptedWith, factored, finished, slept, stripped, fired, tells};
+ghost use Rattle.tasks.specs.Views.{view, FactorIn};
 use crate::task_table::TaskTable;
 use roll::Roll;
 use sheet::Event;
@@ -17,12 +17,26 @@ use table::firing::Target;
 
 impl<R: Roll> TaskTable<R> {
     // A start of the task is accepted at its present level.
-    pub fn accept(&mut self, task: u8)
+    fn accept(&mut self, task: u8)
         requires range { ⌜ (1 ≤ task) × (task ≤ 127) ⌝ }
         requires room { ⌜ hasRoom (view (R·Roll .meaning) (now self)) task ≡ true ⌝ }
         ensures { λ _. ⌜ view (R·Roll .meaning) (now (self .exit)) ≡ accepted (view (R·Roll .meaning) (now (self .entry))) task ⌝ }
     {
         let _ = self.roll.add(task, self.levels[task as usize]);
+    }
+
+    // A start of the task is accepted, and the factor that it brings, if any, is set.
+    pub fn accept_with(&mut self, task: u8, factor: Option<u8>)
+        requires range { ⌜ (1 ≤ task) × (task ≤ 127) ⌝ }
+        requires room { ⌜ hasRoom (view (R·Roll .meaning) (now self)) task ≡ true ⌝ }
+        requires factor { ⌜ FactorIn factor ⌝ }
+        ensures { λ _. ⌜ view (R·Roll .meaning) (now (self .exit)) ≡ acceptedWith (view (R·Roll .meaning) (now (self .entry))) task factor ⌝ }
+    {
+        self.accept(task);
+        match factor {
+            Some(factor) => self.set_factor(task, factor),
+            None => {}
+        }
     }
 
     // A factor of the task is set.
@@ -54,6 +68,7 @@ impl<R: Roll> TaskTable<R> {
     pub fn strip(&mut self, task: u8, written: u8) -> u8
         requires { ⌜ (1 ≤ task) × (task ≤ 127) × (written ≤ 4) ⌝ }
         ensures count { λ r. ⌜ r ≡ countIn task (view (R·Roll .meaning) (now (self .entry)) .roll) ⌝ }
+        ensures bound { λ r. ⌜ r ≤ 2 ⌝ }
         ensures state { λ _. ⌜ view (R·Roll .meaning) (now (self .exit)) ≡ stripped (view (R·Roll .meaning) (now (self .entry))) task written ⌝ }
     {
         let count = self.roll.clear(task);
@@ -84,8 +99,7 @@ pub impl<R: Roll> Target for TaskTable<R> as TaskTarget {
                         task,
                     };
                 }
-                self.accept(task);
-                self.set_factor(task, factor);
+                self.accept_with(task, Some(factor));
                 Event {
                     kind: Kind::Accepted,
                     task,

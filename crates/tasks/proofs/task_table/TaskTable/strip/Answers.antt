@@ -39,6 +39,7 @@ returns g c =
     let roll = c .unhold .ensures .after ∙ unheld (g .R·Roll .lever) t (g .R·Roll .meaning (c .clear-count .last .self)) in-range (g .R·Roll·met .free (c .clear-count .last .self)) in
     record {
       count = c .clear-count .ensures .answer;
+      bound = omega (arith, c .clear-count .ensures .answer, g .R·Roll·met .sound (s .roll) .0 .1 t);
       state = same-tasks
         (table-put (s .released) t false false (omega (arith, sizes .0)))
         (table-put (s .levels) t (c .args .written) 0 (omega (arith, sizes .1)))

@@ -1,6 +1,4 @@
-use mathlib.Core.Path.{sym, ap, _∙_}
-use Rattle.rules.specs.State.{Tasks}
-use Rattle.rules.specs.Starts.{factored}
+use mathlib.Core.Path.{sym, _∙_}
 use Rattle.tasks.specs.Views.{view}
 use Rattle.tasks.proofs.Fires.{start-taken}
 use Rattle.tasks.proofs.task_table.starts.TaskTarget.fire.Needs as need
@@ -12,6 +10,6 @@ returns-else-not-has-room g c =
     let s = view (g .R·Roll .meaning) (c .args .self .now) in
     let h = start-taken s (c .args .firing) t x (c .in-Start .is) (sym (c .if-not-is-released .ensures tt)) (sym (c .if-not-has-room .ensures tt)) in
     record {
-      state = c .set-factor .ensures ∙ ap (λ (v : Tasks). factored v t x) (c .accept .ensures) ∙ h .0;
+      state = c .accept-with .ensures ∙ h .0;
       event = h .1;
     }

@@ -1,0 +1,4 @@
+pub mod Agreed
+pub mod Same
+pub mod Beaten
+pub mod Settled

@@ -1,0 +1,9 @@
+//! The station: over any roll, what runs the tasks of one cabinet. A cold station knows only power-up, a live one the
+//! calls, and stop ends it.
+
+mod cold;
+mod live;
+mod setup;
+
+pub use cold::Cold;
+pub use live::Live;
