@@ -3,7 +3,8 @@ use mathlib.Core.Path.{_≡_, refl, sym, ap, subst, _∙_}
 use mathlib.Core.Bool.{Bool, true, false, cond, not, _&&_}
 use mathlib.Core.List.{List, [], _∷_, _++_}
 use Prim.Native.Nat.{ℕ, _+_}
-use lib.Dec.{eqb}
+use lib.Dec.{eqb, ltb, leb}
+use Rattle.std.proofs.shelf.Ways.{tells}
 use lib.ListN.{length}
 use Rattle.std.proofs.shelf.Tests.{cond-true, cond-false, eq-eqb}
 use Rattle.std.proofs.shelf.Lists.{length-append}
@@ -16,7 +17,9 @@ use Rattle.rules.specs.declared.answer.Code.the-variants.{Done}
 use Rattle.rules.specs.declared.answer.Answer.{Answer}
 use Rattle.rules.specs.State.{Setup, Tasks, State, Station, running}
 use Rattle.rules.specs.Effects.{Effect, quiet}
-use Rattle.rules.specs.Refusals.{Step, turn, settled, Check}
+use Rattle.std.specs.shelf.Lists.{kept-by}
+use native.Mathlib.Omega.{arith}
+use Rattle.rules.specs.Refusals.{Step, turn, settled, refused, Check}
 use Rattle.rules.specs.Calls.{answered, Comes}
 
 -- checks that do not apply are passed over
@@ -81,3 +84,25 @@ quiet-comes {before} {after} {given} s ms mt r =
       answer = ap (λ (l : List Event). let r : Answer = record { code = Done; told = length l; factor = 0 } in r) et;
       sheet = ap (λ (l : List Event). written l given) et;
     }
+
+-- a removal that takes nothing leaves what there was
+pub none-taken : {P : Type 0} (m : P → Bool) (ps : List P) → length (kept-by m ps) ≡ 0 → kept-by (λ p. not (m p)) ps ≡ ps
+none-taken m [] e = refl
+none-taken m (p ∷ ps) e =
+    elim (m p) as (λ b. length (cond b (p ∷ kept-by m ps) (kept-by m ps)) ≡ 0 → cond (not b) (p ∷ kept-by (λ q. not (m q)) ps) (kept-by (λ q. not (m q)) ps) ≡ p ∷ ps) [
+      | true ↦ λ q. absurd (omega arith)
+      | false ↦ λ q. ap (λ l. p ∷ l) (none-taken m ps q)
+    ] e
+
+-- one check applies: what it says comes back
+pub hit1 : (c : Check) (done : Step) → c .applies ≡ true → c .back ≡ answered (c ∷ []) done
+hit1 c done e = sym (cond-true (c .applies) (c .back) done e)
+
+-- a call that is turned down, and leaves the station as it was
+pub refused-comes : {before after : Station} {given : List Event} {a : Answer} (k : Code) → after .setup ≡ before .setup → after .state ≡ before .state → a ≡ record { code = k; told = 0; factor = 0 } →
+    Comes (refused (before .state) k) before given after a given
+refused-comes k p q e = record { setup = p; state = q; answer = e; sheet = refl }
+
+-- a table with a place left is not full
+pub not-full : (n m k : ℕ) → true ≡ ltb n m → m ≡ k → leb k n ≡ false
+not-full n m k e p = grind (arith, tells)

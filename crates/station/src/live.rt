@@ -22,6 +22,8 @@ pub struct Live<R> {
 
 mod effects;
 mod host;
+mod modes;
 mod power;
 mod settling;
 mod starts;
+mod timing;
