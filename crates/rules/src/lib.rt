@@ -3,9 +3,11 @@
 
 mod answer;
 mod call;
+mod fields;
 
 pub use answer::Answer;
 pub use answer::Code;
 pub use answer::LEAST_SHEET;
 pub use call::Call;
 pub use call::Macro;
+pub use fields::is_task_field;

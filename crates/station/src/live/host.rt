@@ -1,6 +1,6 @@
 //! The host's calls.
 
-ghost use Rattle.rules.specs.declared.call.Call.the-variants.{Tick};
+ghost use Rattle.rules.specs.declared.call.Call.the-variants.{Tick as TickOf, Coil as CoilOf};
 ghost use Rattle.rules.specs.Calls.{Performed};
 ghost use Rattle.station.specs.Views.{seen};
 use crate::live::Live;
@@ -8,12 +8,13 @@ use roll::Roll;
 use rules::Answer;
 use rules::Code;
 use rules::LEAST_SHEET;
+use rules::is_task_field;
 use sheet::Event;
 
 impl<R: Roll> Live<R> {
     // One millisecond passes.
     pub fn tick(&mut self, sheet: &mut [Event]) -> Answer
-        ensures { λ r. ⌜ Performed (seen (R·Roll .meaning) (R·Roll .lever) (now (self .entry))) Tick (now (sheet .entry)) (seen (R·Roll .meaning) (R·Roll .lever) (now (self .exit))) r (now (sheet .exit)) ⌝ }
+        ensures { λ r. ⌜ Performed (seen (R·Roll .meaning) (R·Roll .lever) (now (self .entry))) TickOf (now (sheet .entry)) (seen (R·Roll .meaning) (R·Roll .lever) (now (self .exit))) r (now (sheet .exit)) ⌝ }
     {
         if sheet.len() < LEAST_SHEET {
             return Answer::refused(Code::ShortSheet);
@@ -21,5 +22,19 @@ impl<R: Roll> Live<R> {
         let was = self.tasks.running();
         let told = self.beat(sheet);
         self.settle(Code::Done, was, false, told, sheet)
+    }
+
+    // A contact of the cabinet closes: a start without a factor is asked for.
+    pub fn coil(&mut self, task: u8, sheet: &mut [Event]) -> Answer
+        ensures { λ r. ⌜ Performed (seen (R·Roll .meaning) (R·Roll .lever) (now (self .entry))) (CoilOf task) (now (sheet .entry)) (seen (R·Roll .meaning) (R·Roll .lever) (now (self .exit))) r (now (sheet .exit)) ⌝ }
+    {
+        if sheet.len() < LEAST_SHEET {
+            return Answer::refused(Code::ShortSheet);
+        }
+        if !is_task_field(task) {
+            return Answer::refused(Code::CoilRange);
+        }
+        let was = self.tasks.running();
+        self.begin(task, None, was, sheet)
     }
 }

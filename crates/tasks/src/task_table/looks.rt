@@ -19,6 +19,7 @@ impl<R: Roll> TaskTable<R> {
     pub fn running(&mut self) -> u8
         ensures answer { λ r. ⌜ r ≡ running (view (R·Roll .meaning) (now (self .entry))) ⌝ }
         ensures same { λ _. ⌜ view (R·Roll .meaning) (now (self .exit)) ≡ view (R·Roll .meaning) (now (self .entry)) ⌝ }
+        ensures within { λ r. ⌜ r ≤ 127 ⌝ }
     {
         match self.roll.first() {
             Some(task) => task,
