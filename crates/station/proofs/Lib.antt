@@ -3,3 +3,4 @@ pub mod Same
 pub mod Beaten
 pub mod Settled
 pub mod Issues
+pub mod Carried

@@ -20,6 +20,7 @@ pub struct Live<R> {
     ghost sized: { (length timers ≡ 64) × (length wakes ≡ 32) },
 }
 
+mod calls;
 mod dispatch;
 mod effects;
 mod host;

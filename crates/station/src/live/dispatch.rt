@@ -92,14 +92,14 @@ impl<R: Roll> Live<R> {
         self.obey(m, issuer, sheet)
     }
 
-    // Carries out any call.
-    pub fn perform(&mut self, call: Call, sheet: &mut [Event]) -> Answer
+    // What any call does.
+    pub(crate) fn carry_out(&mut self, call: Call, sheet: &mut [Event]) -> Answer
         ensures { λ r. ⌜ Performed (seen (R·Roll .meaning) (R·Roll .lever) (now (self .entry))) call (now (sheet .entry)) (seen (R·Roll .meaning) (R·Roll .lever) (now (self .exit))) r (now (sheet .exit)) ⌝ }
     {
         match call {
             Call::Macro(m) => self.issue(m, sheet),
-            Call::Tick => self.tick(sheet),
-            Call::Coil { task } => self.coil(task, sheet),
+            Call::Tick => self.do_tick(sheet),
+            Call::Coil { task } => self.do_coil(task, sheet),
         }
     }
 }

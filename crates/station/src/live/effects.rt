@@ -25,7 +25,7 @@ use tasks::TaskTarget;
 impl<R: Roll> Live<R> {
     // Cuts all starts of a task, and its delay goes; one event each stands at the front of the sheet then. Answers how
     // many there were.
-    pub fn cut(&mut self, task: u8, sheet: &mut [Event]) -> usize
+    pub(crate) fn cut(&mut self, task: u8, sheet: &mut [Event]) -> usize
         requires { ⌜ (1 ≤ task) × (task ≤ 127) × (2 ≤ length (now sheet)) ⌝ }
         ensures setup { λ _. ⌜ seen (R·Roll .meaning) (R·Roll .lever) (now (self .exit)) .setup ≡ seen (R·Roll .meaning) (R·Roll .lever) (now (self .entry)) .setup ⌝ }
         ensures state { λ _. ⌜ seen (R·Roll .meaning) (R·Roll .lever) (now (self .exit)) .state ≡ cutting (seen (R·Roll .meaning) (R·Roll .lever) (now (self .entry)) .setup) (seen (R·Roll .meaning) (R·Roll .lever) (now (self .entry)) .state) task task .state ⌝ }
@@ -46,7 +46,7 @@ impl<R: Roll> Live<R> {
 
     // One millisecond passes: the timers are beaten, and then, on a full second, the wakes, whose events stand behind
     // those of the timers. Answers how many events were told.
-    pub fn beat(&mut self, sheet: &mut [Event]) -> usize
+    pub(crate) fn beat(&mut self, sheet: &mut [Event]) -> usize
         requires { ⌜ 96 ≤ length (now sheet) ⌝ }
         ensures setup { λ _. ⌜ seen (R·Roll .meaning) (R·Roll .lever) (now (self .exit)) .setup ≡ seen (R·Roll .meaning) (R·Roll .lever) (now (self .entry)) .setup ⌝ }
         ensures state { λ _. ⌜ seen (R·Roll .meaning) (R·Roll .lever) (now (self .exit)) .state ≡ ticked (seen (R·Roll .meaning) (R·Roll .lever) (now (self .entry)) .state) ⌝ }

@@ -1,4 +1,4 @@
-//! The host's calls.
+//! What the host's calls do.
 
 ghost use Rattle.rules.specs.declared.call.Call.the-variants.{Tick as TickOf, Coil as CoilOf};
 ghost use Rattle.rules.specs.Calls.{Performed};
@@ -13,7 +13,7 @@ use sheet::Event;
 
 impl<R: Roll> Live<R> {
     // One millisecond passes.
-    pub fn tick(&mut self, sheet: &mut [Event]) -> Answer
+    pub(crate) fn do_tick(&mut self, sheet: &mut [Event]) -> Answer
         ensures { λ r. ⌜ Performed (seen (R·Roll .meaning) (R·Roll .lever) (now (self .entry))) TickOf (now (sheet .entry)) (seen (R·Roll .meaning) (R·Roll .lever) (now (self .exit))) r (now (sheet .exit)) ⌝ }
     {
         if sheet.len() < LEAST_SHEET {
@@ -25,7 +25,7 @@ impl<R: Roll> Live<R> {
     }
 
     // A contact of the cabinet closes: a start without a factor is asked for.
-    pub fn coil(&mut self, task: u8, sheet: &mut [Event]) -> Answer
+    pub(crate) fn do_coil(&mut self, task: u8, sheet: &mut [Event]) -> Answer
         ensures { λ r. ⌜ Performed (seen (R·Roll .meaning) (R·Roll .lever) (now (self .entry))) (CoilOf task) (now (sheet .entry)) (seen (R·Roll .meaning) (R·Roll .lever) (now (self .exit))) r (now (sheet .exit)) ⌝ }
     {
         if sheet.len() < LEAST_SHEET {

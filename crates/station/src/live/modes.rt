@@ -15,7 +15,7 @@ use sheet::Event;
 
 impl<R: Roll> Live<R> {
     // A dormant task is released.
-    pub fn obey_rleas(&mut self, task: u8, issuer: u8, sheet: &mut [Event]) -> Answer
+    pub(crate) fn obey_rleas(&mut self, task: u8, issuer: u8, sheet: &mut [Event]) -> Answer
         ensures { λ r. ⌜ Obeys (seen (R·Roll .meaning) (R·Roll .lever) (now (self .entry))) issuer (RleasOf task) (now (sheet .entry)) (seen (R·Roll .meaning) (R·Roll .lever) (now (self .exit))) r (now (sheet .exit)) ⌝ }
     {
         if !self.setup.is_registered(task) {
@@ -29,7 +29,7 @@ impl<R: Roll> Live<R> {
     }
 
     // The present level of a task changes.
-    pub fn obey_chap(&mut self, task: u8, level: u8, issuer: u8, sheet: &mut [Event]) -> Answer
+    pub(crate) fn obey_chap(&mut self, task: u8, level: u8, issuer: u8, sheet: &mut [Event]) -> Answer
         requires level { ⌜ level ≤ 4 ⌝ }
         requires room { ⌜ 100 ≤ length (now sheet) ⌝ }
         requires issuer { ⌜ issuer ≡ running (seen (R·Roll .meaning) (R·Roll .lever) (now self) .state .tasks) ⌝ }
@@ -46,7 +46,7 @@ impl<R: Roll> Live<R> {
     }
 
     // A factor of a task is set.
-    pub fn obey_sfact(&mut self, task: u8, factor: u8, issuer: u8, sheet: &mut [Event]) -> Answer
+    pub(crate) fn obey_sfact(&mut self, task: u8, factor: u8, issuer: u8, sheet: &mut [Event]) -> Answer
         requires { ⌜ factor ≤ 16 ⌝ }
         ensures { λ r. ⌜ Obeys (seen (R·Roll .meaning) (R·Roll .lever) (now (self .entry))) issuer (SfactOf task factor) (now (sheet .entry)) (seen (R·Roll .meaning) (R·Roll .lever) (now (self .exit))) r (now (sheet .exit)) ⌝ }
     {
@@ -64,7 +64,7 @@ impl<R: Roll> Live<R> {
     }
 
     // The issuer's smallest factor is taken; 0 is answered where none is set.
-    pub fn obey_gfact(&mut self, issuer: u8, sheet: &mut [Event]) -> Answer
+    pub(crate) fn obey_gfact(&mut self, issuer: u8, sheet: &mut [Event]) -> Answer
         requires { ⌜ issuer ≤ 127 ⌝ }
         ensures { λ r. ⌜ Obeys (seen (R·Roll .meaning) (R·Roll .lever) (now (self .entry))) issuer GfactOf (now (sheet .entry)) (seen (R·Roll .meaning) (R·Roll .lever) (now (self .exit))) r (now (sheet .exit)) ⌝ }
     {
@@ -80,7 +80,7 @@ impl<R: Roll> Live<R> {
     }
 
     // A task is held.
-    pub fn obey_susp(&mut self, task: u8, issuer: u8, sheet: &mut [Event]) -> Answer
+    pub(crate) fn obey_susp(&mut self, task: u8, issuer: u8, sheet: &mut [Event]) -> Answer
         requires room { ⌜ 100 ≤ length (now sheet) ⌝ }
         requires issuer { ⌜ issuer ≡ running (seen (R·Roll .meaning) (R·Roll .lever) (now self) .state .tasks) ⌝ }
         ensures { λ r. ⌜ Obeys (seen (R·Roll .meaning) (R·Roll .lever) (now (self .entry))) issuer (SuspOf task) (now (sheet .entry)) (seen (R·Roll .meaning) (R·Roll .lever) (now (self .exit))) r (now (sheet .exit)) ⌝ }
@@ -101,7 +101,7 @@ impl<R: Roll> Live<R> {
     }
 
     // A task's hold ends.
-    pub fn obey_rsum(&mut self, task: u8, issuer: u8, sheet: &mut [Event]) -> Answer
+    pub(crate) fn obey_rsum(&mut self, task: u8, issuer: u8, sheet: &mut [Event]) -> Answer
         requires room { ⌜ 100 ≤ length (now sheet) ⌝ }
         requires issuer { ⌜ issuer ≡ running (seen (R·Roll .meaning) (R·Roll .lever) (now self) .state .tasks) ⌝ }
         ensures { λ r. ⌜ Obeys (seen (R·Roll .meaning) (R·Roll .lever) (now (self .entry))) issuer (RsumOf task) (now (sheet .entry)) (seen (R·Roll .meaning) (R·Roll .lever) (now (self .exit))) r (now (sheet .exit)) ⌝ }

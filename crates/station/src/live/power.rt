@@ -19,7 +19,7 @@ use tasks::TaskTable;
 impl<R: Roll> Live<R> {
     // A station just powered up with a book: its roll is emptied with its holds, nothing is set, and task 1 alone is
     // released, with one start.
-    pub fn powered(roll: R, book: Book<'_>) -> Live<R>
+    pub(crate) fn powered(roll: R, book: Book<'_>) -> Live<R>
         ensures { λ r. ⌜ seen (R·Roll .meaning) (R·Roll .lever) r ≡ record { setup = setupIn (R·Roll .lever) (book .entry .bytes .now); state = started (setupIn (R·Roll .lever) (book .entry .bytes .now)) } ⌝ }
     {
         let setup = Setup::of(book);

@@ -19,7 +19,7 @@ use sheet::tell;
 
 impl<R: Roll> Live<R> {
     // A start is asked for, with a factor or without; `was` has the processor.
-    pub fn begin(&mut self, task: u8, factor: Option<u8>, was: u8, sheet: &mut [Event]) -> Answer
+    pub(crate) fn begin(&mut self, task: u8, factor: Option<u8>, was: u8, sheet: &mut [Event]) -> Answer
         requires room { ⌜ 100 ≤ length (now sheet) ⌝ }
         requires factor { ⌜ FactorIn factor ⌝ }
         requires was { ⌜ was ≡ running (seen (R·Roll .meaning) (R·Roll .lever) (now self) .state .tasks) ⌝ }
@@ -53,7 +53,7 @@ impl<R: Roll> Live<R> {
     }
 
     // All starts of a task are cut, if it is registered.
-    pub fn obey_abort(&mut self, task: u8, issuer: u8, sheet: &mut [Event]) -> Answer
+    pub(crate) fn obey_abort(&mut self, task: u8, issuer: u8, sheet: &mut [Event]) -> Answer
         requires room { ⌜ 100 ≤ length (now sheet) ⌝ }
         requires issuer { ⌜ issuer ≡ running (seen (R·Roll .meaning) (R·Roll .lever) (now self) .state .tasks) ⌝ }
         ensures { λ r. ⌜ Obeys (seen (R·Roll .meaning) (R·Roll .lever) (now (self .entry))) issuer (AbortOf task) (now (sheet .entry)) (seen (R·Roll .meaning) (R·Roll .lever) (now (self .exit))) r (now (sheet .exit)) ⌝ }
@@ -66,7 +66,7 @@ impl<R: Roll> Live<R> {
     }
 
     // The issuer's current start is ended.
-    pub fn obey_exit(&mut self, issuer: u8, sheet: &mut [Event]) -> Answer
+    pub(crate) fn obey_exit(&mut self, issuer: u8, sheet: &mut [Event]) -> Answer
         requires room { ⌜ 100 ≤ length (now sheet) ⌝ }
         requires issuer { ⌜ issuer ≡ running (seen (R·Roll .meaning) (R·Roll .lever) (now self) .state .tasks) ⌝ }
         ensures { λ r. ⌜ Obeys (seen (R·Roll .meaning) (R·Roll .lever) (now (self .entry))) issuer ExitOf (now (sheet .entry)) (seen (R·Roll .meaning) (R·Roll .lever) (now (self .exit))) r (now (sheet .exit)) ⌝ }

@@ -21,7 +21,7 @@ use table::wake::entry::beat::WakeEntry;
 
 impl<R: Roll> Live<R> {
     // The issuer sleeps.
-    pub fn obey_delay(&mut self, t: u32, issuer: u8, sheet: &mut [Event]) -> Answer
+    pub(crate) fn obey_delay(&mut self, t: u32, issuer: u8, sheet: &mut [Event]) -> Answer
         requires range { ⌜ (1 ≤ issuer) × (issuer ≤ 127) ⌝ }
         requires room { ⌜ 100 ≤ length (now sheet) ⌝ }
         requires issuer { ⌜ issuer ≡ running (seen (R·Roll .meaning) (R·Roll .lever) (now self) .state .tasks) ⌝ }
@@ -35,7 +35,7 @@ impl<R: Roll> Live<R> {
     }
 
     // A timer is set for a task.
-    pub fn obey_timer(&mut self, task: u8, t: u32, cycle: u32, factor: u8, issuer: u8, sheet: &mut [Event]) -> Answer
+    pub(crate) fn obey_timer(&mut self, task: u8, t: u32, cycle: u32, factor: u8, issuer: u8, sheet: &mut [Event]) -> Answer
         requires { ⌜ factor ≤ 16 ⌝ }
         ensures { λ r. ⌜ Obeys (seen (R·Roll .meaning) (R·Roll .lever) (now (self .entry))) issuer (TimerOf task t cycle factor) (now (sheet .entry)) (seen (R·Roll .meaning) (R·Roll .lever) (now (self .exit))) r (now (sheet .exit)) ⌝ }
     {
@@ -49,7 +49,7 @@ impl<R: Roll> Live<R> {
     }
 
     // All timers of a task and a factor go.
-    pub fn obey_ctime(&mut self, task: u8, factor: u8, issuer: u8, sheet: &mut [Event]) -> Answer
+    pub(crate) fn obey_ctime(&mut self, task: u8, factor: u8, issuer: u8, sheet: &mut [Event]) -> Answer
         ensures { λ r. ⌜ Obeys (seen (R·Roll .meaning) (R·Roll .lever) (now (self .entry))) issuer (CtimeOf task factor) (now (sheet .entry)) (seen (R·Roll .meaning) (R·Roll .lever) (now (self .exit))) r (now (sheet .exit)) ⌝ }
     {
         if row::remove::<Timer>(&mut self.timers, Selection::Set { task, factor }) == 0 {
@@ -59,7 +59,7 @@ impl<R: Roll> Live<R> {
     }
 
     // A wake is set for a task.
-    pub fn obey_wake(&mut self, task: u8, factor: u8, second: u32, cycle: u32, issuer: u8, sheet: &mut [Event]) -> Answer
+    pub(crate) fn obey_wake(&mut self, task: u8, factor: u8, second: u32, cycle: u32, issuer: u8, sheet: &mut [Event]) -> Answer
         requires { ⌜ factor ≤ 16 ⌝ }
         ensures { λ r. ⌜ Obeys (seen (R·Roll .meaning) (R·Roll .lever) (now (self .entry))) issuer (WakeOf task factor second cycle) (now (sheet .entry)) (seen (R·Roll .meaning) (R·Roll .lever) (now (self .exit))) r (now (sheet .exit)) ⌝ }
     {
@@ -73,7 +73,7 @@ impl<R: Roll> Live<R> {
     }
 
     // All wakes of a task and a factor go.
-    pub fn obey_cwake(&mut self, task: u8, factor: u8, issuer: u8, sheet: &mut [Event]) -> Answer
+    pub(crate) fn obey_cwake(&mut self, task: u8, factor: u8, issuer: u8, sheet: &mut [Event]) -> Answer
         ensures { λ r. ⌜ Obeys (seen (R·Roll .meaning) (R·Roll .lever) (now (self .entry))) issuer (CwakeOf task factor) (now (sheet .entry)) (seen (R·Roll .meaning) (R·Roll .lever) (now (self .exit))) r (now (sheet .exit)) ⌝ }
     {
         if row::remove::<Wake>(&mut self.wakes, Selection::Set { task, factor }) == 0 {
@@ -83,7 +83,7 @@ impl<R: Roll> Live<R> {
     }
 
     // The clock moves to the beginning of a second.
-    pub fn obey_stime(&mut self, second: u32, issuer: u8, sheet: &mut [Event]) -> Answer
+    pub(crate) fn obey_stime(&mut self, second: u32, issuer: u8, sheet: &mut [Event]) -> Answer
         requires { ⌜ second < 86400 ⌝ }
         ensures { λ r. ⌜ Obeys (seen (R·Roll .meaning) (R·Roll .lever) (now (self .entry))) issuer (StimeOf second) (now (sheet .entry)) (seen (R·Roll .meaning) (R·Roll .lever) (now (self .exit))) r (now (sheet .exit)) ⌝ }
     {

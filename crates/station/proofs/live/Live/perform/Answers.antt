@@ -1,22 +1,13 @@
-use mathlib.Core.Path.{_≡_, refl, sym, ap, _∙_}
-use lib.ListN.{length}
-use Rattle.rules.specs.declared.call.Call.{Call}
-use Rattle.rules.specs.Calls.{called}
+use Rattle.laws.proofs.Always.{carried}
 use Rattle.station.specs.Views.{seen}
-use Rattle.station.proofs.Settled.{comes-as}
+use Rattle.station.proofs.Carried.{numbered}
 use Rattle.station.proofs.live.Live.perform.Needs as need
 
-pub returns-in-Macro : need.returns-in-Macro
-returns-in-Macro g c =
-    let v = seen (g .R·Roll .meaning) (g .R·Roll .lever) (c .args .self .now) in
-    comes-as (ap (λ (x : Call). called (v .setup) (v .state) x (length (c .args .sheet .now))) (sym (c .in-Macro .is))) (c .issue .ensures)
-
-pub returns-in-Tick : need.returns-in-Tick
-returns-in-Tick g c =
-    let v = seen (g .R·Roll .meaning) (g .R·Roll .lever) (c .args .self .now) in
-    comes-as (ap (λ (x : Call). called (v .setup) (v .state) x (length (c .args .sheet .now))) (sym (c .in-Tick .is))) (c .tick .ensures)
-
-pub returns-in-Coil : need.returns-in-Coil
-returns-in-Coil g c =
-    let v = seen (g .R·Roll .meaning) (g .R·Roll .lever) (c .args .self .now) in
-    comes-as (ap (λ (x : Call). called (v .setup) (v .state) x (length (c .args .sheet .now))) (sym (c .in-Coil .is))) (c .coil .ensures)
+pub returns : need.returns
+returns g c =
+    let before = seen (g .R·Roll .meaning) (g .R·Roll .lever) (c .args .self .now) in
+    let after = seen (g .R·Roll .meaning) (g .R·Roll .lever) (c .carry-out .last .self) in
+    record {
+      performed = c .carry-out .ensures;
+      lawful = carried before after (c .args .call) (c .args .sheet .now) (c .carry-out .result) (c .carry-out .last .sheet) (numbered (c .args .self .now .setup) (g .R·Roll .lever)) (c .carry-out .ensures);
+    }

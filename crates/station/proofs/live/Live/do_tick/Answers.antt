@@ -13,7 +13,7 @@ use Rattle.tasks.specs.Views.{view}
 use Rattle.station.specs.Views.{seen}
 use Rattle.station.proofs.Same.{retasked}
 use Rattle.station.proofs.Settled.{comes-as, settled-comes, passed1}
-use Rattle.station.proofs.live.Live.tick.Needs as need
+use Rattle.station.proofs.live.Live.do_tick.Needs as need
 
 pub returns : need.returns
 returns g c =

@@ -10,7 +10,7 @@ use Rattle.station.specs.Obeys.{begun}
 use Rattle.station.proofs.Same.{retasked}
 use Rattle.station.proofs.Settled.{comes-as}
 use Rattle.station.proofs.Issues.{comes-by, called-coil}
-use Rattle.station.proofs.live.Live.coil.Needs as need
+use Rattle.station.proofs.live.Live.do_coil.Needs as need
 
 pub returns : need.returns
 returns g c =

@@ -1,0 +1,4 @@
+pub mod Histories
+pub mod Asks
+pub mod Laws
+pub mod Runs
