@@ -2,6 +2,8 @@
 
 ghost use mathlib.Core.Path.{_≡_};
 ghost use Rattle.rules.specs.Calls.{started};
+ghost use Rattle.laws.specs.Histories.{Reached, History.powered};
+ghost use Rattle.laws.specs.Laws.{Laws};
 ghost use Rattle.station.specs.Views.{setupIn, seen};
 use crate::live::Live;
 use book::Book;
@@ -21,7 +23,9 @@ impl<R: Roll> Cold<R> {
 
     // Powers the station up with a book. Its two events, accepted 1 and runs 1, are fixed and are written nowhere.
     pub fn power_up(self, book: Book<'_>) -> Live<R>
-        ensures { λ r. ⌜ seen (R·Roll .meaning) (R·Roll .lever) r ≡ record { setup = setupIn (R·Roll .lever) (book .entry .bytes .now); state = started (setupIn (R·Roll .lever) (book .entry .bytes .now)) } ⌝ }
+        ensures state { λ r. ⌜ seen (R·Roll .meaning) (R·Roll .lever) r ≡ record { setup = setupIn (R·Roll .lever) (book .entry .bytes .now); state = started (setupIn (R·Roll .lever) (book .entry .bytes .now)) } ⌝ }
+        ensures reached { λ r. ⌜ Reached (seen (R·Roll .meaning) (R·Roll .lever) r .setup) powered (seen (R·Roll .meaning) (R·Roll .lever) r .state) ⌝ }
+        ensures laws { λ r. ⌜ Laws (seen (R·Roll .meaning) (R·Roll .lever) r .setup) powered (seen (R·Roll .meaning) (R·Roll .lever) r .state) ⌝ }
     {
         let Cold { roll } = self;
         Live::powered(roll, book)

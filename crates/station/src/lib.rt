@@ -2,8 +2,11 @@
 //! calls, and stop ends it.
 
 mod cold;
+mod driving;
 mod live;
 mod setup;
 
 pub use cold::Cold;
+pub use driving::Driven;
+pub use driving::drive;
 pub use live::Live;
