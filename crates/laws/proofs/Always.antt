@@ -8,7 +8,7 @@ use Rattle.rules.specs.declared.answer.Answer.{Answer}
 use Rattle.rules.specs.declared.call.Call.{Call}
 use Rattle.rules.specs.State.{Setup, State, Station}
 use Rattle.rules.specs.Calls.{called, started, Performed}
-use Rattle.laws.specs.Histories.{Seen, seen, History, History.powered, History.then, Leads, Reached, Reached.on, Reached.by, calls, answers}
+use Rattle.laws.specs.Histories.{Seen, seen, History, History.powered, History.then, Leads, Reached, Reached.on, Reached.by}
 use Rattle.laws.specs.Laws.{Full, Laws, Numbered, Always}
 use Rattle.laws.specs.Runs.{Lawful, Ran}
 use Rattle.laws.proofs.Steps.{saw}
@@ -20,7 +20,7 @@ full : (b : Setup) → Numbered b → {h : History} {s : State} → Reached b h 
 full b z on = tt
 full b z (by {h = h} {s = s} {t = t} {e = e} r d) = subst (λ (g : Seen). Full b (then h g)) (seen-is b s t e d) (full-next b h s (e .call) (e .room) (tied b z r))
 
-pub always : Always
+pub always : (b : Setup) → Numbered b → Always b
 always b z h s r =
     let t = tied b z r in
     record {
@@ -49,17 +49,17 @@ carried before after c given a left z p =
 
 -- ---- a list of calls
 pub ran-none : (b : Setup) → Numbered b → Ran b [] [] (started b)
-ran-none b z = record { history = powered; reached = on; asked = refl; told = refl; laws = always b z powered (started b) on }
+ran-none b z = record { history = powered; reached = on; made = refl; answered = refl; laws = always b z powered (started b) on }
 
-pub ran-more : (before after : Station) (c : Call) (given : List Event) (a : Answer) (left : List Event) (made : List Call) (answered : List Answer) → Numbered (before .setup)
-    → Ran (before .setup) made answered (before .state) → Performed before c given after a left → Ran (after .setup) (made ++ (c ∷ [])) (answered ++ (a ∷ [])) (after .state)
-ran-more before after c given a left made answered z r p =
-    subst (λ (b : Setup). Ran b (made ++ (c ∷ [])) (answered ++ (a ∷ [])) (after .state)) (sym (p .setup))
+pub ran-more : (before after : Station) (c : Call) (given : List Event) (a : Answer) (left : List Event) (asked : List Call) (answers : List Answer) → Numbered (before .setup)
+    → Ran (before .setup) asked answers (before .state) → Performed before c given after a left → Ran (after .setup) (asked ++ (c ∷ [])) (answers ++ (a ∷ [])) (after .state)
+ran-more before after c given a left asked answers z r p =
+    subst (λ (b : Setup). Ran b (asked ++ (c ∷ [])) (answers ++ (a ∷ [])) (after .state)) (sym (p .setup))
     (let d = leads before after c given a left p in
     record {
       history = then (r .history) (seen c given a left);
       reached = by (r .reached) d;
-      asked = ap (λ (l : List Call). l ++ (c ∷ [])) (r .asked);
-      told = ap (λ (l : List Answer). l ++ (a ∷ [])) (r .told);
+      made = ap (λ (l : List Call). l ++ (c ∷ [])) (r .made);
+      answered = ap (λ (l : List Answer). l ++ (a ∷ [])) (r .answered);
       laws = always (before .setup) z (then (r .history) (seen c given a left)) (after .state) (by (r .reached) d);
     })

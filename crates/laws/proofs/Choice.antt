@@ -27,9 +27,12 @@ use Rattle.laws.proofs.First.{Holds, BestOf, Bef, Ordered, both, best-is, best
 use Rattle.laws.proofs.Live.{asleep-delays}
 use Rattle.laws.proofs.Tied.{Tied}
 
-fits-awake : (x : Bool) (bs : List Bool) (n : ℕ) → Fits (x ∷ bs) n → n ≡ 0 → x ≡ false
-fits-awake true bs n g h = absurd (let y = g .0 in let z : ⊥ = omega arith in z)
-fits-awake false bs n g h = refl
+fits-awake : (l : List Bool) (x : Bool) (bs : List Bool) (n : ℕ) → l ≡ x ∷ bs → Fits l n → n ≡ 0 → x ≡ false
+fits-awake l x bs n q g h = go x (subst (λ (m : List Bool). Fits m n) q g)
+  where
+    go : (y : Bool) → Fits (y ∷ bs) n → y ≡ false
+    go true f = absurd (let y = f .0 in let z : ⊥ = omega arith in z)
+    go false f = refl
 
 -- what is known of the entry that comes first
 record Known (s : State) (e : Entry) : Type 0 where
@@ -89,7 +92,7 @@ module _ (b : Setup) (h : History) (s : State) (t : Tied b h s) where
       let f = w .0 in
       let no : delaysOf u (s .timers) ≡ 0 = (let z = ltb-false 0 (delaysOf u (s .timers)) (sym (slept u) ∙ r .wakes) in omega arith) in
       let mk : marksOf u (s .tasks .roll .entries) ≡ f .asleep ∷ w .2 .1 .0 .0 = subst (λ k. marksOf k (s .tasks .roll .entries) ≡ f .asleep ∷ w .2 .1 .0 .0) (w .1) (w .2 .1 .0 .1) in
-      let aw : f .asleep ≡ false = fits-awake (f .asleep) (w .2 .1 .0 .0) (delaysOf u (s .timers)) (subst (λ l. Fits l (delaysOf u (s .timers))) mk (t .fit .kept .marks u)) no in
+      let aw : f .asleep ≡ false = fits-awake (marksOf u (s .tasks .roll .entries)) (f .asleep) (w .2 .1 .0 .0) (delaysOf u (s .timers)) mk (t .fit .kept .marks u) no in
       let fr : s .tasks .roll .held (f .task) ≡ false = ap (s .tasks .roll .held) (w .1) ∙ t .holds u ∙ r .free in
       (f, w .1, (w .2 .0 (and-from (not (f .asleep)) (not (s .tasks .roll .held (f .task))) (not-from-false (f .asleep) aw) (not-from-false (s .tasks .roll .held (f .task)) fr)), w .2 .1 .1 .0 ∙ ap (s .tasks .level) (w .1)))
 

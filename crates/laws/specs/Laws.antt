@@ -168,5 +168,5 @@ abbrev pub Numbered : Setup → Type 0
 Numbered b = (t : ℕ) → b .registered t ≡ true → (1 ≤ t) × (t ≤ 127)
 
 -- whatever was asked since power-up, the laws hold
-abbrev pub Always : Type 0
-Always = (b : Setup) → Numbered b → (h : History) (s : State) → Reached b h s → Laws b h s
+abbrev pub Always : Setup → Type 0
+Always b = (h : History) (s : State) → Reached b h s → Laws b h s

@@ -13,9 +13,9 @@ pub record Lawful (b : Setup) (s : State) (e : Seen) (t : State) : Type 0 where
   pub laws : (h : History) → Reached b h s → Laws b (then h e) t
 
 -- These calls were made from power-up on, each once and in their order, each was answered so, and they led to the state s.
-pub record Ran (b : Setup) (made : List Call) (answered : List Answer) (s : State) : Type 0 where
+pub record Ran (b : Setup) (asked : List Call) (given : List Answer) (s : State) : Type 0 where
   pub history : History
   pub reached : Reached b history s
-  pub asked : calls history ≡ made
-  pub told : answers history ≡ answered
+  pub made : calls history ≡ asked
+  pub answered : answers history ≡ given
   pub laws : Laws b history s

@@ -7,6 +7,7 @@ ghost use Rattle.laws.specs.Laws.{Laws};
 ghost use Rattle.station.specs.Views.{setupIn, seen};
 use crate::live::Live;
 use book::Book;
+use kernel::Kernel;
 use roll::Roll;
 
 pub struct Cold<R> {
@@ -28,6 +29,6 @@ impl<R: Roll> Cold<R> {
         ensures laws { λ r. ⌜ Laws (seen (R·Roll .meaning) (R·Roll .lever) r .setup) powered (seen (R·Roll .meaning) (R·Roll .lever) r .state) ⌝ }
     {
         let Cold { roll } = self;
-        Live::powered(roll, book)
+        Live::over(Kernel::powered(roll, book))
     }
 }

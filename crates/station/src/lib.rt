@@ -4,7 +4,6 @@
 mod cold;
 mod driving;
 mod live;
-mod setup;
 
 pub use cold::Cold;
 pub use driving::Driven;

@@ -20,7 +20,7 @@ impl<R: Roll> Live<R> {
         ensures performed { λ r. ⌜ Performed (seen (R·Roll .meaning) (R·Roll .lever) (now (self .entry))) call (now (sheet .entry)) (seen (R·Roll .meaning) (R·Roll .lever) (now (self .exit))) r (now (sheet .exit)) ⌝ }
         ensures lawful { λ r. ⌜ Lawful (seen (R·Roll .meaning) (R·Roll .lever) (now (self .entry)) .setup) (seen (R·Roll .meaning) (R·Roll .lever) (now (self .entry)) .state) (witnessed call (now (sheet .entry)) r (now (sheet .exit))) (seen (R·Roll .meaning) (R·Roll .lever) (now (self .exit)) .state) ⌝ }
     {
-        self.carry_out(call, sheet)
+        self.kernel.carry_out(call, sheet)
     }
 
     // One millisecond passes. This and the next are the host's calls.

@@ -11,7 +11,7 @@ use Rattle.rules.specs.Calls.{started}
 use Rattle.laws.specs.Runs.{Ran}
 use Rattle.laws.proofs.Always.{ran-none, ran-more}
 use Rattle.station.specs.Views.{seen, setupIn}
-use Rattle.station.proofs.Carried.{numbered}
+use Rattle.kernel.proofs.Numbers.{numbered}
 use Rattle.station.proofs.driving.drive.Needs as need
 
 ran-as : {b : Setup} {s : State} {cs cs′ : List Call} {ks ks′ : List Answer} → cs ≡ cs′ → ks ≡ ks′ → Ran b cs ks s → Ran b cs′ ks′ s
@@ -24,7 +24,7 @@ loop-i-holds g c =
     let e : v ≡ record { setup = b; state = started b } = c .power-up-live .ensures .state in
     let setup : v .setup ≡ b = ap (λ (x : Station). x .setup) e in
     let state : started (v .setup) ≡ v .state = ap started setup ∙ sym (ap (λ (x : Station). x .state) e) in
-    (subst (λ (x : State). Ran (v .setup) [] [] x) state (ran-none (v .setup) (numbered (c .power-up-live .result .setup) (g .R·Roll .lever))), setup, refl)
+    (subst (λ (x : State). Ran (v .setup) [] [] x) state (ran-none (v .setup) (numbered (c .power-up-live .result .kernel .setup))), setup, refl)
 
 pub loop-i-again : need.loop-i-again
 loop-i-again g c =
@@ -35,7 +35,7 @@ loop-i-again g c =
     let lc : i < length (c .args .calls .now) = omega (arith, c .min-made .ensures) in
     let la : i < length (c .loop-i .answers) = omega (arith, c .min-made .ensures) in
     let lt : i < i + 1 = omega arith in
-    let r = ran-more before after _ (c .loop-i .sheet) (c .perform .result) (c .perform .last .sheet) (take i (c .args .calls .now)) (take i (c .loop-i .answers)) (numbered (c .loop-i .live .setup) (g .R·Roll .lever)) (c .loop-i .inv .0) p in
+    let r = ran-more before after _ (c .loop-i .sheet) (c .perform .result) (c .perform .last .sheet) (take i (c .args .calls .now)) (take i (c .loop-i .answers)) (numbered (c .loop-i .live .kernel .setup)) (c .loop-i .inv .0) p in
     (ran-as (sym (take-more (c .args .calls .now) i _ lc)) (sym (take-more-set (c .loop-i .answers) i (c .perform .result) la)) r,
     p .setup ∙ c .loop-i .inv .1,
     drop-set-lt (i + 1) (c .loop-i .answers) i (c .perform .result) lt ∙ sym (drop-drop 1 i (c .loop-i .answers)) ∙ ap (drop 1) (c .loop-i .inv .2) ∙ drop-drop 1 i (c .args .answers .now))

@@ -1,0 +1,4 @@
+pub mod Made
+pub mod Samples
+pub mod Notions
+pub mod Refuted
