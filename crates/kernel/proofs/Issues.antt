@@ -38,7 +38,6 @@ pub issuer-ok : (room r t : ℕ) → Ok t ≡ issuerOf room r → (ltb room 100 
 issuer-ok room r t e = by-tests (ltb room 100) (eqb r 0) r t e
 
 module _ (b : Setup) (s : State) (m : Macro) (room : ℕ) where
-
   pub called-refused : (k : Code) → Err k ≡ issuerOf room (running (s .tasks)) → refused s k ≡ called b s (Issued m) room
   called-refused k e = go (ltb room 100) (eqb (running (s .tasks)) 0) e
     where

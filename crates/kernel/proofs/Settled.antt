@@ -57,17 +57,17 @@ settled-comes {before} {mid} {after} {given} {sheet} {left} {a} code e was n ove
     let t : List Event = turn was over (running (mid .state .tasks)) in
     let t′ : List Event = turn (running (before .state .tasks)) (e .over) (running (e .state .tasks)) in
     let et : t ≡ t′ =
-      ap (λ (w : ℕ). turn w over (running (mid .state .tasks))) pw
-      ∙ ap (λ (o : Bool). turn (running (before .state .tasks)) o (running (mid .state .tasks))) po
-      ∙ ap (λ (s : State). turn (running (before .state .tasks)) (e .over) (running (s .tasks))) mt in
+    ap (λ (w : ℕ). turn w over (running (mid .state .tasks))) pw
+    ∙ ap (λ (o : Bool). turn (running (before .state .tasks)) o (running (mid .state .tasks))) po
+    ∙ ap (λ (s : State). turn (running (before .state .tasks)) (e .over) (running (s .tasks))) mt in
     let el : n + length t ≡ length (e .told ++ t′) =
-      ap (λ (k : ℕ). k + length t) pn ∙ ap (λ (l : List Event). length (e .told) + length l) et ∙ sym (length-append (e .told) t′) in
+    ap (λ (k : ℕ). k + length t) pn ∙ ap (λ (l : List Event). length (e .told) + length l) et ∙ sym (length-append (e .told) t′) in
     record {
       setup = ap (λ (s : Station). s .setup) same ∙ ms;
       state = ap (λ (s : Station). s .state) same ∙ mt;
       answer = ans
-        ∙ ap (λ (k : ℕ). let r : Answer = record { code = code; told = k; factor = 0 } in r) el
-        ∙ ap (λ (x : ℕ). let r : Answer = record { code = code; told = length (e .told ++ t′); factor = x } in r) pf;
+          ∙ ap (λ (k : ℕ). let r : Answer = record { code = code; told = k; factor = 0 } in r) el
+          ∙ ap (λ (x : ℕ). let r : Answer = record { code = code; told = length (e .told ++ t′); factor = x } in r) pf;
       sheet = sh (e .told) given pn ps ∙ ap (λ (l : List Event). written (e .told ++ l) given) et;
     }
 
@@ -77,7 +77,7 @@ pub quiet-comes : {before after : Station} {given : List Event} (s : State) →
     Comes (settled (before .state) Done (quiet s)) before given after (record { code = Done; told = 0; factor = 0 }) given
 quiet-comes {before} {after} {given} s ms mt r =
     let et : [] ≡ turn (running (before .state .tasks)) false (running (s .tasks)) =
-      sym (ap (λ (n : ℕ). turn (running (before .state .tasks)) false n) r ∙ turn-same (running (before .state .tasks))) in
+    sym (ap (λ (n : ℕ). turn (running (before .state .tasks)) false n) r ∙ turn-same (running (before .state .tasks))) in
     record {
       setup = ms;
       state = mt;

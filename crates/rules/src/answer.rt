@@ -68,19 +68,8 @@ pub struct Answer {
 }
 
 impl Answer {
-    // The answer of a call that is obeyed and tells nothing.
-    pub fn done() -> Answer
-        ensures { λ r. ⌜ r ≡ record { code = Done; told = 0; factor = 0 } ⌝ }
-    {
-        Answer {
-            code: Code::Done,
-            told: 0,
-            factor: 0,
-        }
-    }
-
-    // The answer of a call that is turned down and tells nothing.
-    pub fn refused(code: Code) -> Answer
+    // The answer of a call that tells nothing.
+    pub fn silent(code: Code) -> Answer
         ensures { λ r. ⌜ r ≡ record { code = code; told = 0; factor = 0 } ⌝ }
     {
         Answer {
@@ -88,6 +77,13 @@ impl Answer {
             told: 0,
             factor: 0,
         }
+    }
+
+    // The answer of a call that is obeyed and tells nothing.
+    pub fn done() -> Answer
+        ensures { λ r. ⌜ r ≡ record { code = Done; told = 0; factor = 0 } ⌝ }
+    {
+        Answer::silent(Code::Done)
     }
 }
 

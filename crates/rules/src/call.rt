@@ -4,33 +4,70 @@
 #[derive(Clone, Copy)]
 pub enum Macro {
     // A dormant task is released: it takes starts from now on.
-    Rleas { task: u8 },
+    Rleas {
+        task: u8,
+    },
     // A start of a task, with a factor.
-    Queue { task: u8, factor: u8 },
+    Queue {
+        task: u8,
+        factor: u8,
+    },
     // All starts of a task are cut, and it is dormant.
-    Abort { task: u8 },
+    Abort {
+        task: u8,
+    },
     // The issuer sleeps for t milliseconds.
-    Delay { t: u32 },
+    Delay {
+        t: u32,
+    },
     // Starts of a task: after t milliseconds, and then at each cycle.
-    Timer { task: u8, t: u32, cycle: u32, factor: u8 },
+    Timer {
+        task: u8,
+        t: u32,
+        cycle: u32,
+        factor: u8,
+    },
     // All timers of a task and a factor go.
-    Ctime { task: u8, factor: u8 },
+    Ctime {
+        task: u8,
+        factor: u8,
+    },
     // The present level of a task changes.
-    Chap { task: u8, level: u8 },
+    Chap {
+        task: u8,
+        level: u8,
+    },
     // A factor of a task is set.
-    Sfact { task: u8, factor: u8 },
+    Sfact {
+        task: u8,
+        factor: u8,
+    },
     // The issuer's smallest factor is taken and answered.
     Gfact,
     // A task is held: it does not run.
-    Susp { task: u8 },
+    Susp {
+        task: u8,
+    },
     // A task's hold ends.
-    Rsum { task: u8 },
+    Rsum {
+        task: u8,
+    },
     // Starts of a task: at a second of the day, and then at each cycle, in seconds.
-    Wake { task: u8, factor: u8, second: u32, cycle: u32 },
+    Wake {
+        task: u8,
+        factor: u8,
+        second: u32,
+        cycle: u32,
+    },
     // All wakes of a task and a factor go.
-    Cwake { task: u8, factor: u8 },
+    Cwake {
+        task: u8,
+        factor: u8,
+    },
     // The clock is set to the beginning of a second of the day.
-    Stime { second: u32 },
+    Stime {
+        second: u32,
+    },
     // The issuer's current start is ended.
     Exit,
 }

@@ -29,19 +29,28 @@ impl Macro {
         ensures { λ r. ⌜ r ≡ inRange self ⌝ }
     {
         match self {
-            Macro::Rleas { task } | Macro::Abort { task } | Macro::Susp { task } | Macro::Rsum { task } => is_task_field(task),
+            Macro::Rleas { task }
+            | Macro::Abort { task }
+            | Macro::Susp { task }
+            | Macro::Rsum { task } => is_task_field(task),
             Macro::Queue { task, factor }
             | Macro::Ctime { task, factor }
             | Macro::Sfact { task, factor }
             | Macro::Cwake { task, factor } => is_task_field(task) && is_factor(factor),
             Macro::Delay { t } => is_wait(t),
-            Macro::Timer { task, t, cycle, factor } => {
-                is_task_field(task) && is_wait(t) && cycle <= 86_400_000 && is_factor(factor)
-            }
+            Macro::Timer {
+                task,
+                t,
+                cycle,
+                factor,
+            } => { is_task_field(task) && is_wait(t) && cycle <= 86_400_000 && is_factor(factor) }
             Macro::Chap { task, level } => is_task_field(task) && level <= 4,
-            Macro::Wake { task, factor, second, cycle } => {
-                is_task_field(task) && is_factor(factor) && second < 86_400 && cycle <= 86_400
-            }
+            Macro::Wake {
+                task,
+                factor,
+                second,
+                cycle,
+            } => { is_task_field(task) && is_factor(factor) && second < 86_400 && cycle <= 86_400 }
             Macro::Stime { second } => second < 86_400,
             Macro::Gfact | Macro::Exit => true,
         }

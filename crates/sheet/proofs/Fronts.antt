@@ -50,7 +50,7 @@ module _ {X : Type 0} where
       let short : length (drop n sheet) ≤ length sheet - n = omega (arith, length-drop n sheet) in
       let none : drop (length sheet - n) (drop n sheet) ≡ [] = drop-all (length sheet - n) (drop n sheet) short in
       let tail : drop (length back) (drop n given) ≡ drop (length (front ++ back)) given =
-        drop-drop (length back) n given ∙ ap (λ k. drop (k + length back) given) e ∙ ap (λ k. drop k given) (sym (length-append front back)) in
+      drop-drop (length back) n given ∙ ap (λ k. drop (k + length back) given) e ∙ ap (λ k. drop k given) (sym (length-append front back)) in
       ap (λ l. l ++ (rest ++ postOf n (length sheet - n) sheet)) head
       ∙ ap (λ l. front ++ (rest ++ l)) none
       ∙ ap (λ l. front ++ l) (append-nil rest ∙ w₂ ∙ ap (written back) (take-rest sheet n ∙ left) ∙ ap (λ l. back ++ l) tail)

@@ -21,7 +21,13 @@ pub struct Driven<R> {
 
 // Powers a station up and makes the calls, each once and in order, on the same sheet, as many as there is room for
 // answers; the answers stand at the front of `answers` then.
-pub fn drive<R: Roll>(cold: Cold<R>, book: Book<'_>, calls: &[Call], sheet: &mut [Event], answers: &mut [Answer]) -> Driven<R>
+pub fn drive<R: Roll>(
+    cold: Cold<R>,
+    book: Book<'_>,
+    calls: &[Call],
+    sheet: &mut [Event],
+    answers: &mut [Answer],
+) -> Driven<R>
     ensures made { λ r. ⌜ r .made ≡ min (length (now (calls .entry))) (length (now (answers .entry))) ⌝ }
     ensures ran { λ r. ⌜ Ran (setupIn (R·Roll .lever) (book .entry .bytes .now)) (take (r .made) (now (calls .entry))) (take (r .made) (now (answers .exit))) (seen (R·Roll .meaning) (R·Roll .lever) (r .live) .state) ⌝ }
     ensures rest { λ r. ⌜ drop (r .made) (now (answers .exit)) ≡ drop (r .made) (now (answers .entry)) ⌝ }

@@ -23,7 +23,7 @@ module _ {X : Type 0} (m : X → Bool) where
   pub counted-more : (n : ℕ) (xs ys zs : List X) (k : ℕ) → zs ≡ xs ++ ys → n ≡ length (kept-by m xs) → k ≡ length (kept-by m ys) → n + k ≡ length (kept-by m zs)
   counted-more n xs ys zs k e h i =
       let s : length (kept-by m zs) ≡ length (kept-by m xs) + length (kept-by m ys) =
-        ap (λ l. length (kept-by m l)) e ∙ ap length (kept-by-append m xs ys) ∙ length-append (kept-by m xs) (kept-by m ys) in
+      ap (λ l. length (kept-by m l)) e ∙ ap length (kept-by-append m xs ys) ∙ length-append (kept-by m xs) (kept-by m ys) in
       omega arith
 
 module _ {P : Type 0} (live m : P → Bool) where

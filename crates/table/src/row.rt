@@ -47,10 +47,7 @@ fn strike<E: TableEntry, T: Target>(p: E::Place, beat: E::Beat, target: &mut T) 
                         event: Some(event),
                     }
                 }
-                None => Struck {
-                    place,
-                    event: None,
-                },
+                None => Struck { place, event: None },
             }
         }
     }
@@ -58,7 +55,12 @@ fn strike<E: TableEntry, T: Target>(p: E::Place, beat: E::Beat, target: &mut T) 
 
 // Beats every entry once, oldest first, and tells an event for each that fires at the front of the sheet; answers how
 // many. That the sheet has a record for each place is asked of the station, whose calls test it.
-pub fn beat<E: TableEntry, T: Target>(places: &mut [E::Place], beat: E::Beat, target: &mut T, sheet: &mut [Event]) -> usize
+pub fn beat<E: TableEntry, T: Target>(
+    places: &mut [E::Place],
+    beat: E::Beat,
+    target: &mut T,
+    sheet: &mut [Event],
+) -> usize
     requires { ⌜ length (now places) ≤ length (now sheet) ⌝ }
     ensures entries { λ _. ⌜ entries (E·TableEntry .live) (now (places .exit)) ≡ lefts (E·TableEntry .after beat) (entries (E·TableEntry .live) (now (places .entry))) ⌝ }
     ensures target { λ _. ⌜ T·Target .seen (now (target .exit)) ≡ allFired (T·Target .fired) (T·Target .seen (now (target .entry))) (firings (E·TableEntry .fires beat) (entries (E·TableEntry .live) (now (places .entry)))) ⌝ }

@@ -21,6 +21,7 @@ nested-put xs t row lt = fun-ext at
     push : (b : Bool) (ys zs : List Bool) → _≡_ {A = ℕ → Bool} (λ x. getD (cond b ys zs) x false) (cond b (λ x. getD ys x false) (λ x. getD zs x false))
     push true ys zs = refl
     push false ys zs = refl
+
     at : (u : ℕ) → nested (set xs t row) u ≡ put (nested xs) t (λ x. getD row x false) u
     at u =
         let e = table-put xs t row [] lt in

@@ -65,14 +65,24 @@ impl<R: Roll> Kernel<R> {
             Macro::Queue { task, factor } => self.begin(task, Some(factor), issuer, sheet),
             Macro::Abort { task } => self.obey_abort(task, issuer, sheet),
             Macro::Delay { t } => self.obey_delay(t, issuer, sheet),
-            Macro::Timer { task, t, cycle, factor } => self.obey_timer(task, t, cycle, factor, issuer, sheet),
+            Macro::Timer {
+                task,
+                t,
+                cycle,
+                factor,
+            } => self.obey_timer(task, t, cycle, factor, issuer, sheet),
             Macro::Ctime { task, factor } => self.obey_ctime(task, factor, issuer, sheet),
             Macro::Chap { task, level } => self.obey_chap(task, level, issuer, sheet),
             Macro::Sfact { task, factor } => self.obey_sfact(task, factor, issuer, sheet),
             Macro::Gfact => self.obey_gfact(issuer, sheet),
             Macro::Susp { task } => self.obey_susp(task, issuer, sheet),
             Macro::Rsum { task } => self.obey_rsum(task, issuer, sheet),
-            Macro::Wake { task, factor, second, cycle } => self.obey_wake(task, factor, second, cycle, issuer, sheet),
+            Macro::Wake {
+                task,
+                factor,
+                second,
+                cycle,
+            } => self.obey_wake(task, factor, second, cycle, issuer, sheet),
             Macro::Cwake { task, factor } => self.obey_cwake(task, factor, issuer, sheet),
             Macro::Stime { second } => self.obey_stime(second, issuer, sheet),
             Macro::Exit => self.obey_exit(issuer, sheet),
@@ -84,7 +94,7 @@ impl<R: Roll> Kernel<R> {
     {
         let issuer = match self.issuer(sheet.len()) {
             Ok(issuer) => issuer,
-            Err(code) => return Answer::refused(code),
+            Err(code) => return Answer::silent(code),
         };
         if !m.is_in_range() {
             return self.cut_issuer(issuer, sheet);

@@ -59,6 +59,12 @@ impl<R: Roll> Kernel<R> {
         let Some(second) = second else {
             return told;
         };
-        told + row::beat::<Wake, TaskTable<R>>(&mut self.wakes, second, &mut self.tasks, &mut sheet[told..])
+        told
+            + row::beat::<Wake, TaskTable<R>>(
+                &mut self.wakes,
+                second,
+                &mut self.tasks,
+                &mut sheet[told..],
+            )
     }
 }

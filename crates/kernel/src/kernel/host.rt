@@ -20,7 +20,7 @@ impl<R: Roll> Kernel<R> {
         ensures { λ r. ⌜ Performed (seen (R·Roll .meaning) (R·Roll .lever) (now (self .entry))) TickOf (now (sheet .entry)) (seen (R·Roll .meaning) (R·Roll .lever) (now (self .exit))) r (now (sheet .exit)) ⌝ }
     {
         if sheet.len() < LEAST_SHEET {
-            return Answer::refused(Code::ShortSheet);
+            return Answer::silent(Code::ShortSheet);
         }
         let was = self.tasks.running();
         let told = self.beat(sheet);
@@ -32,10 +32,10 @@ impl<R: Roll> Kernel<R> {
         ensures { λ r. ⌜ Performed (seen (R·Roll .meaning) (R·Roll .lever) (now (self .entry))) (CoilOf task) (now (sheet .entry)) (seen (R·Roll .meaning) (R·Roll .lever) (now (self .exit))) r (now (sheet .exit)) ⌝ }
     {
         if sheet.len() < LEAST_SHEET {
-            return Answer::refused(Code::ShortSheet);
+            return Answer::silent(Code::ShortSheet);
         }
         if !is_task_field(task) {
-            return Answer::refused(Code::CoilRange);
+            return Answer::silent(Code::CoilRange);
         }
         let was = self.tasks.running();
         self.begin(task, None, was, sheet)

@@ -19,45 +19,57 @@ impl<R: Roll> Kernel<R> {
         ensures { λ r. ⌜ Obeys (seen (R·Roll .meaning) (R·Roll .lever) (now (self .entry))) issuer (RleasOf task) (now (sheet .entry)) (seen (R·Roll .meaning) (R·Roll .lever) (now (self .exit))) r (now (sheet .exit)) ⌝ }
     {
         if !self.setup.is_registered(task) {
-            return Answer::refused(Code::NotRegistered);
+            return Answer::silent(Code::NotRegistered);
         }
         if self.tasks.is_released(task) {
-            return Answer::refused(Code::IsReleased);
+            return Answer::silent(Code::IsReleased);
         }
         self.tasks.release(task);
         Answer::done()
     }
 
     // The present level of a task changes.
-    pub(crate) fn obey_chap(&mut self, task: u8, level: u8, issuer: u8, sheet: &mut [Event]) -> Answer
+    pub(crate) fn obey_chap(
+        &mut self,
+        task: u8,
+        level: u8,
+        issuer: u8,
+        sheet: &mut [Event],
+    ) -> Answer
         requires level { ⌜ level ≤ 4 ⌝ }
         requires room { ⌜ 100 ≤ length (now sheet) ⌝ }
         requires issuer { ⌜ issuer ≡ running (seen (R·Roll .meaning) (R·Roll .lever) (now self) .state .tasks) ⌝ }
         ensures { λ r. ⌜ Obeys (seen (R·Roll .meaning) (R·Roll .lever) (now (self .entry))) issuer (ChapOf task level) (now (sheet .entry)) (seen (R·Roll .meaning) (R·Roll .lever) (now (self .exit))) r (now (sheet .exit)) ⌝ }
     {
         if !self.setup.is_registered(task) {
-            return Answer::refused(Code::NotRegistered);
+            return Answer::silent(Code::NotRegistered);
         }
         if !self.tasks.is_released(task) {
-            return Answer::refused(Code::Dormant);
+            return Answer::silent(Code::Dormant);
         }
         self.tasks.set_level(task, level);
         self.settle(Code::Done, issuer, false, 0, sheet)
     }
 
     // A factor of a task is set.
-    pub(crate) fn obey_sfact(&mut self, task: u8, factor: u8, issuer: u8, sheet: &mut [Event]) -> Answer
+    pub(crate) fn obey_sfact(
+        &mut self,
+        task: u8,
+        factor: u8,
+        issuer: u8,
+        sheet: &mut [Event],
+    ) -> Answer
         requires { ⌜ factor ≤ 16 ⌝ }
         ensures { λ r. ⌜ Obeys (seen (R·Roll .meaning) (R·Roll .lever) (now (self .entry))) issuer (SfactOf task factor) (now (sheet .entry)) (seen (R·Roll .meaning) (R·Roll .lever) (now (self .exit))) r (now (sheet .exit)) ⌝ }
     {
         if !self.setup.is_registered(task) {
-            return Answer::refused(Code::NotRegistered);
+            return Answer::silent(Code::NotRegistered);
         }
         if !self.tasks.is_released(task) {
-            return Answer::refused(Code::Dormant);
+            return Answer::silent(Code::Dormant);
         }
         if self.tasks.has_factor(task, factor) {
-            return Answer::refused(Code::FactorSet);
+            return Answer::silent(Code::FactorSet);
         }
         self.tasks.set_factor(task, factor);
         Answer::done()
@@ -86,16 +98,16 @@ impl<R: Roll> Kernel<R> {
         ensures { λ r. ⌜ Obeys (seen (R·Roll .meaning) (R·Roll .lever) (now (self .entry))) issuer (SuspOf task) (now (sheet .entry)) (seen (R·Roll .meaning) (R·Roll .lever) (now (self .exit))) r (now (sheet .exit)) ⌝ }
     {
         if !self.setup.is_registered(task) {
-            return Answer::refused(Code::NotRegistered);
+            return Answer::silent(Code::NotRegistered);
         }
         if !R::has_lever() {
-            return Answer::refused(Code::NoLever);
+            return Answer::silent(Code::NoLever);
         }
         if !self.tasks.is_released(task) {
-            return Answer::refused(Code::Dormant);
+            return Answer::silent(Code::Dormant);
         }
         if !self.tasks.hold(task) {
-            return Answer::refused(Code::HoldStands);
+            return Answer::silent(Code::HoldStands);
         }
         self.settle(Code::Done, issuer, false, 0, sheet)
     }
@@ -107,16 +119,16 @@ impl<R: Roll> Kernel<R> {
         ensures { λ r. ⌜ Obeys (seen (R·Roll .meaning) (R·Roll .lever) (now (self .entry))) issuer (RsumOf task) (now (sheet .entry)) (seen (R·Roll .meaning) (R·Roll .lever) (now (self .exit))) r (now (sheet .exit)) ⌝ }
     {
         if !self.setup.is_registered(task) {
-            return Answer::refused(Code::NotRegistered);
+            return Answer::silent(Code::NotRegistered);
         }
         if !R::has_lever() {
-            return Answer::refused(Code::NoLever);
+            return Answer::silent(Code::NoLever);
         }
         if !self.tasks.is_released(task) {
-            return Answer::refused(Code::Dormant);
+            return Answer::silent(Code::Dormant);
         }
         if !self.tasks.unhold(task) {
-            return Answer::refused(Code::HoldStands);
+            return Answer::silent(Code::HoldStands);
         }
         self.settle(Code::Done, issuer, false, 0, sheet)
     }

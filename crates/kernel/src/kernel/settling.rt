@@ -18,7 +18,14 @@ use sheet::Event;
 impl<R: Roll> Kernel<R> {
     // Behind the events that stand at the front of the sheet, `runs` is told if the processor has changed hands since
     // the task `was` had it, or if the start that had it is over.
-    pub(crate) fn settle(&mut self, code: Code, was: u8, over: bool, told: usize, sheet: &mut [Event]) -> Answer
+    pub(crate) fn settle(
+        &mut self,
+        code: Code,
+        was: u8,
+        over: bool,
+        told: usize,
+        sheet: &mut [Event],
+    ) -> Answer
         requires { ⌜ told < length (now sheet) ⌝ }
         ensures same { λ _. ⌜ seen (R·Roll .meaning) (R·Roll .lever) (now (self .exit)) ≡ seen (R·Roll .meaning) (R·Roll .lever) (now (self .entry)) ⌝ }
         ensures answer { λ r. ⌜ r ≡ record { code = code; told = told + length (turn was over (running (seen (R·Roll .meaning) (R·Roll .lever) (now (self .entry)) .state .tasks))); factor = 0 } ⌝ }

@@ -19,17 +19,23 @@ use sheet::tell;
 
 impl<R: Roll> Kernel<R> {
     // A start is asked for, with a factor or without; `was` has the processor.
-    pub(crate) fn begin(&mut self, task: u8, factor: Option<u8>, was: u8, sheet: &mut [Event]) -> Answer
+    pub(crate) fn begin(
+        &mut self,
+        task: u8,
+        factor: Option<u8>,
+        was: u8,
+        sheet: &mut [Event],
+    ) -> Answer
         requires room { ⌜ 100 ≤ length (now sheet) ⌝ }
         requires factor { ⌜ FactorIn factor ⌝ }
         requires was { ⌜ was ≡ running (seen (R·Roll .meaning) (R·Roll .lever) (now self) .state .tasks) ⌝ }
         ensures { λ r. ⌜ Comes (begun (seen (R·Roll .meaning) (R·Roll .lever) (now (self .entry)) .setup) (seen (R·Roll .meaning) (R·Roll .lever) (now (self .entry)) .state) task factor) (seen (R·Roll .meaning) (R·Roll .lever) (now (self .entry))) (now (sheet .entry)) (seen (R·Roll .meaning) (R·Roll .lever) (now (self .exit))) r (now (sheet .exit)) ⌝ }
     {
         if !self.setup.is_registered(task) {
-            return Answer::refused(Code::NotRegistered);
+            return Answer::silent(Code::NotRegistered);
         }
         if !self.tasks.is_released(task) {
-            return Answer::refused(Code::Dormant);
+            return Answer::silent(Code::Dormant);
         }
         if !self.tasks.has_room(task) {
             let event = Event {

@@ -28,56 +28,84 @@ impl<R: Roll> Kernel<R> {
         ensures { λ r. ⌜ Obeys (seen (R·Roll .meaning) (R·Roll .lever) (now (self .entry))) issuer (DelayOf t) (now (sheet .entry)) (seen (R·Roll .meaning) (R·Roll .lever) (now (self .exit))) r (now (sheet .exit)) ⌝ }
     {
         if !row::add::<Timer>(&mut self.timers, Timer::delay(issuer, t)) {
-            return Answer::refused(Code::TableFull);
+            return Answer::silent(Code::TableFull);
         }
         self.tasks.sleep(issuer);
         self.settle(Code::Done, issuer, false, 0, sheet)
     }
 
     // A timer is set for a task.
-    pub(crate) fn obey_timer(&mut self, task: u8, t: u32, cycle: u32, factor: u8, issuer: u8, sheet: &mut [Event]) -> Answer
+    pub(crate) fn obey_timer(
+        &mut self,
+        task: u8,
+        t: u32,
+        cycle: u32,
+        factor: u8,
+        issuer: u8,
+        sheet: &mut [Event],
+    ) -> Answer
         requires { ⌜ factor ≤ 16 ⌝ }
         ensures { λ r. ⌜ Obeys (seen (R·Roll .meaning) (R·Roll .lever) (now (self .entry))) issuer (TimerOf task t cycle factor) (now (sheet .entry)) (seen (R·Roll .meaning) (R·Roll .lever) (now (self .exit))) r (now (sheet .exit)) ⌝ }
     {
         if !self.setup.is_registered(task) {
-            return Answer::refused(Code::NotRegistered);
+            return Answer::silent(Code::NotRegistered);
         }
         if !row::add::<Timer>(&mut self.timers, Timer::timer(task, factor, t, cycle)) {
-            return Answer::refused(Code::TableFull);
+            return Answer::silent(Code::TableFull);
         }
         Answer::done()
     }
 
     // All timers of a task and a factor go.
-    pub(crate) fn obey_ctime(&mut self, task: u8, factor: u8, issuer: u8, sheet: &mut [Event]) -> Answer
+    pub(crate) fn obey_ctime(
+        &mut self,
+        task: u8,
+        factor: u8,
+        issuer: u8,
+        sheet: &mut [Event],
+    ) -> Answer
         ensures { λ r. ⌜ Obeys (seen (R·Roll .meaning) (R·Roll .lever) (now (self .entry))) issuer (CtimeOf task factor) (now (sheet .entry)) (seen (R·Roll .meaning) (R·Roll .lever) (now (self .exit))) r (now (sheet .exit)) ⌝ }
     {
         if row::remove::<Timer>(&mut self.timers, Selection::Set { task, factor }) == 0 {
-            return Answer::refused(Code::NothingSet);
+            return Answer::silent(Code::NothingSet);
         }
         Answer::done()
     }
 
     // A wake is set for a task.
-    pub(crate) fn obey_wake(&mut self, task: u8, factor: u8, second: u32, cycle: u32, issuer: u8, sheet: &mut [Event]) -> Answer
+    pub(crate) fn obey_wake(
+        &mut self,
+        task: u8,
+        factor: u8,
+        second: u32,
+        cycle: u32,
+        issuer: u8,
+        sheet: &mut [Event],
+    ) -> Answer
         requires { ⌜ factor ≤ 16 ⌝ }
         ensures { λ r. ⌜ Obeys (seen (R·Roll .meaning) (R·Roll .lever) (now (self .entry))) issuer (WakeOf task factor second cycle) (now (sheet .entry)) (seen (R·Roll .meaning) (R·Roll .lever) (now (self .exit))) r (now (sheet .exit)) ⌝ }
     {
         if !self.setup.is_registered(task) {
-            return Answer::refused(Code::NotRegistered);
+            return Answer::silent(Code::NotRegistered);
         }
         if !row::add::<Wake>(&mut self.wakes, Wake::waiting(task, factor, second, cycle)) {
-            return Answer::refused(Code::TableFull);
+            return Answer::silent(Code::TableFull);
         }
         Answer::done()
     }
 
     // All wakes of a task and a factor go.
-    pub(crate) fn obey_cwake(&mut self, task: u8, factor: u8, issuer: u8, sheet: &mut [Event]) -> Answer
+    pub(crate) fn obey_cwake(
+        &mut self,
+        task: u8,
+        factor: u8,
+        issuer: u8,
+        sheet: &mut [Event],
+    ) -> Answer
         ensures { λ r. ⌜ Obeys (seen (R·Roll .meaning) (R·Roll .lever) (now (self .entry))) issuer (CwakeOf task factor) (now (sheet .entry)) (seen (R·Roll .meaning) (R·Roll .lever) (now (self .exit))) r (now (sheet .exit)) ⌝ }
     {
         if row::remove::<Wake>(&mut self.wakes, Selection::Set { task, factor }) == 0 {
-            return Answer::refused(Code::NothingSet);
+            return Answer::silent(Code::NothingSet);
         }
         Answer::done()
     }

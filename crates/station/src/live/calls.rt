@@ -76,7 +76,15 @@ impl<R: Roll> Live<R> {
         ensures performed { λ r. ⌜ Performed (seen (R·Roll .meaning) (R·Roll .lever) (now (self .entry))) (MacroOf (TimerOf task t cycle factor)) (now (sheet .entry)) (seen (R·Roll .meaning) (R·Roll .lever) (now (self .exit))) r (now (sheet .exit)) ⌝ }
         ensures lawful { λ r. ⌜ Lawful (seen (R·Roll .meaning) (R·Roll .lever) (now (self .entry)) .setup) (seen (R·Roll .meaning) (R·Roll .lever) (now (self .entry)) .state) (witnessed (MacroOf (TimerOf task t cycle factor)) (now (sheet .entry)) r (now (sheet .exit))) (seen (R·Roll .meaning) (R·Roll .lever) (now (self .exit)) .state) ⌝ }
     {
-        self.perform(Call::Macro(Macro::Timer { task, t, cycle, factor }), sheet)
+        self.perform(
+            Call::Macro(Macro::Timer {
+                task,
+                t,
+                cycle,
+                factor,
+            }),
+            sheet,
+        )
     }
 
     // All timers of a task and a factor go.
@@ -128,11 +136,26 @@ impl<R: Roll> Live<R> {
     }
 
     // Starts of a task are set: at a second of the day, and then at each cycle.
-    pub fn wake(&mut self, task: u8, factor: u8, second: u32, cycle: u32, sheet: &mut [Event]) -> Answer
+    pub fn wake(
+        &mut self,
+        task: u8,
+        factor: u8,
+        second: u32,
+        cycle: u32,
+        sheet: &mut [Event],
+    ) -> Answer
         ensures performed { λ r. ⌜ Performed (seen (R·Roll .meaning) (R·Roll .lever) (now (self .entry))) (MacroOf (WakeOf task factor second cycle)) (now (sheet .entry)) (seen (R·Roll .meaning) (R·Roll .lever) (now (self .exit))) r (now (sheet .exit)) ⌝ }
         ensures lawful { λ r. ⌜ Lawful (seen (R·Roll .meaning) (R·Roll .lever) (now (self .entry)) .setup) (seen (R·Roll .meaning) (R·Roll .lever) (now (self .entry)) .state) (witnessed (MacroOf (WakeOf task factor second cycle)) (now (sheet .entry)) r (now (sheet .exit))) (seen (R·Roll .meaning) (R·Roll .lever) (now (self .exit)) .state) ⌝ }
     {
-        self.perform(Call::Macro(Macro::Wake { task, factor, second, cycle }), sheet)
+        self.perform(
+            Call::Macro(Macro::Wake {
+                task,
+                factor,
+                second,
+                cycle,
+            }),
+            sheet,
+        )
     }
 
     // All wakes of a task and a factor go.

@@ -35,10 +35,11 @@ loop-i-again g c =
     let lc : i < length (c .args .calls .now) = omega (arith, c .min-made .ensures) in
     let la : i < length (c .loop-i .answers) = omega (arith, c .min-made .ensures) in
     let lt : i < i + 1 = omega arith in
-    let r = ran-more before after _ (c .loop-i .sheet) (c .perform .result) (c .perform .last .sheet) (take i (c .args .calls .now)) (take i (c .loop-i .answers)) (numbered (c .loop-i .live .kernel .setup)) (c .loop-i .inv .0) p in
-    (ran-as (sym (take-more (c .args .calls .now) i _ lc)) (sym (take-more-set (c .loop-i .answers) i (c .perform .result) la)) r,
-    p .setup ∙ c .loop-i .inv .1,
-    drop-set-lt (i + 1) (c .loop-i .answers) i (c .perform .result) lt ∙ sym (drop-drop 1 i (c .loop-i .answers)) ∙ ap (drop 1) (c .loop-i .inv .2) ∙ drop-drop 1 i (c .args .answers .now))
+    let r = ran-more before after _ (c .loop-i .sheet) (c .perform .result) (c .perform .last .sheet) (take i (c .args .calls .now)) (take i (c .loop-i .answers)) (numbered (c .loop-i .live .kernel .setup)) (c .loop-i .inv .0) p in (
+      ran-as (sym (take-more (c .args .calls .now) i _ lc)) (sym (take-more-set (c .loop-i .answers) i (c .perform .result) la)) r,
+      p .setup ∙ c .loop-i .inv .1,
+      drop-set-lt (i + 1) (c .loop-i .answers) i (c .perform .result) lt ∙ sym (drop-drop 1 i (c .loop-i .answers)) ∙ ap (drop 1) (c .loop-i .inv .2) ∙ drop-drop 1 i (c .args .answers .now),
+    )
 
 pub returns : need.returns
 returns g c =
@@ -48,6 +49,6 @@ returns g c =
     record {
       made = c .min-made .ensures;
       ran = subst (λ (b : Setup). Ran b (take (c .min-made .result) (c .args .calls .now)) (take (c .min-made .result) (c .loop-i .answers)) (live .state)) (i .1)
-        (subst (λ (n : ℕ). Ran (live .setup) (take n (c .args .calls .now)) (take n (c .loop-i .answers)) (live .state)) e (i .0));
+          (subst (λ (n : ℕ). Ran (live .setup) (take n (c .args .calls .now)) (take n (c .loop-i .answers)) (live .state)) e (i .0));
       rest = subst (λ (n : ℕ). drop n (c .loop-i .answers) ≡ drop n (c .args .answers .now)) e (i .2);
     }

@@ -24,8 +24,8 @@ loop-i-again g c =
     let on = fired-more fired tells fires s _ _ _ _ _ split (c .loop-i .inv .1) (c .strike-place .ensures .target) in
     let more = told-more fired tells fires s _ _ _ _ _ split (c .loop-i .inv .1) (c .strike-place .ensures .event) in
     elim (c .match-event .came) [
-      in-Some w ↦ simp (w .sheet-is, w .told-is) (going, on, writing-some (c .loop-i .inv .2) (search needs) (c .strike-place .result .event) more (w .in-Some .event) (w .in-Some .is), omega arith)
-    | in-rest w ↦ simp (w .sheet-is, w .told-is) (going, on, writing-same (c .loop-i .inv .2) (c .strike-place .result .event) more (w .in-rest .is), omega arith)
+      | in-Some w ↦ simp (w .sheet-is, w .told-is) (going, on, writing-some (c .loop-i .inv .2) (search needs) (c .strike-place .result .event) more (w .in-Some .event) (w .in-Some .is), omega arith)
+      | in-rest w ↦ simp (w .sheet-is, w .told-is) (going, on, writing-same (c .loop-i .inv .2) (c .strike-place .result .event) more (w .in-rest .is), omega arith)
     ]
 
 pub returns : need.returns

@@ -14,8 +14,8 @@ pub loop-i-again : need.loop-i-again
 loop-i-again g c =
     let lt : c .loop-i .i < length (c .loop-i .places) = search needs in
     elim (c .if-stands .came) [
-      then-stands w ↦ rw (w .places-is, w .count-is) (keeping-more-set (c .loop-i .inv) lt (sym (w .if-stands .ensures tt)) (c .index-places-i .is))
-    | else-stands w ↦ rw (w .places-is, w .count-is) (keeping-more-no (c .loop-i .inv) lt (sym (w .if-stands .ensures tt)) (c .index-places-i .is))
+      | then-stands w ↦ rw (w .places-is, w .count-is) (keeping-more-set (c .loop-i .inv) lt (sym (w .if-stands .ensures tt)) (c .index-places-i .is))
+      | else-stands w ↦ rw (w .places-is, w .count-is) (keeping-more-no (c .loop-i .inv) lt (sym (w .if-stands .ensures tt)) (c .index-places-i .is))
     ]
 
 pub returns : need.returns

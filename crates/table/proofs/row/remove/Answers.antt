@@ -21,13 +21,13 @@ loop-i-again g c =
     let is = c .index-places-i .is in
     let split = going-split (c .loop-i .inv .0) lt p is in
     elim (c .if-takes .came) [
-      then-takes w ↦
-        let free = ap live (w .free .ensures) ∙ g .E·TableEntry·met .freed in
-        let h = taken-out live m (w .free .result) free p (w .if-takes .ensures tt) in
-        simp (w .places-is, w .count-is) (going-more (c .loop-i .inv .0) lt p is (w .free .result) (h .0), counted-more m _ _ _ _ 1 split (c .loop-i .inv .1) (h .1), omega arith)
-    | else-takes w ↦
-        let h = kept-in live m p (w .if-takes .ensures tt) in
-        simp (w .places-is, w .count-is) (going-same (c .loop-i .inv .0) lt p is (h .0), sym (add-zero (c .loop-i .count)) ∙ counted-more m _ _ _ _ 0 split (c .loop-i .inv .1) (h .1), omega arith)
+      | then-takes w ↦
+          let free = ap live (w .free .ensures) ∙ g .E·TableEntry·met .freed in
+          let h = taken-out live m (w .free .result) free p (w .if-takes .ensures tt) in
+          simp (w .places-is, w .count-is) (going-more (c .loop-i .inv .0) lt p is (w .free .result) (h .0), counted-more m _ _ _ _ 1 split (c .loop-i .inv .1) (h .1), omega arith)
+      | else-takes w ↦
+          let h = kept-in live m p (w .if-takes .ensures tt) in
+          simp (w .places-is, w .count-is) (going-same (c .loop-i .inv .0) lt p is (h .0), sym (add-zero (c .loop-i .count)) ∙ counted-more m _ _ _ _ 0 split (c .loop-i .inv .1) (h .1), omega arith)
     ]
 
 pub returns : need.returns

@@ -136,9 +136,12 @@ pub impl TableEntry for Timer as TimerEntry {
             firing,
         }
     }
+
     fn is_selected(self, by: Selection) -> bool {
         match by {
-            Selection::Set { task, factor } => !self.delay && self.task == task && self.factor == factor,
+            Selection::Set { task, factor } => !self.delay
+                && self.task == task
+                && self.factor == factor,
             Selection::Delay { task } => self.delay && self.task == task,
         }
     }

@@ -52,7 +52,9 @@ impl Wake {
             return Phase::Counts { left: self.cycle };
         }
         match self.phase {
-            Phase::Counts { left } => Phase::Counts { left: left.saturating_sub(1) },
+            Phase::Counts { left } => Phase::Counts {
+                left: left.saturating_sub(1),
+            },
             phase => phase,
         }
     }

@@ -16,7 +16,7 @@ returns-in-Err g c =
     let v = seen (g .R·Roll .meaning) (g .R·Roll .lever) (c .args .self .now) in
     let e = c .in-Err .ensures tt in
     comes-as (called-refused (v .setup) (v .state) (c .args .m) (length (c .args .sheet .now)) (c .in-Err .code) (e .answer))
-    (refused-comes (c .in-Err .code) (ap (λ (x : Station). x .setup) (e .same)) (ap (λ (x : Station). x .state) (e .same)) (c .refused .ensures))
+    (refused-comes (c .in-Err .code) (ap (λ (x : Station). x .setup) (e .same)) (ap (λ (x : Station). x .state) (e .same)) (c .silent .ensures))
 
 pub returns-then-not-is-in-range : need.returns-then-not-is-in-range
 returns-then-not-is-in-range g c =

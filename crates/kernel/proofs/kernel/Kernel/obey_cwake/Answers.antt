@@ -22,4 +22,4 @@ returns-then-remove-eq0 g c =
     let x = c .args .factor in
     let none : length (kept-by (wakeSelected (Set t x)) (s .wakes)) ≡ 0 = sym (c .remove .ensures .count) ∙ c .if-remove-eq0 .taken in
     comes-as (hit1 (nothingSet (v .setup) s (noWake s t x)) (settled s Done (obeyed (v .setup) s (c .args .issuer) (Cancel t x))) (eq-eqb _ 0 none))
-    (refused-comes NothingSet refl (same-state refl refl (c .remove .ensures .entries ∙ none-taken (wakeSelected (Set t x)) (s .wakes) none) refl) (c .refused .ensures))
+    (refused-comes NothingSet refl (same-state refl refl (c .remove .ensures .entries ∙ none-taken (wakeSelected (Set t x)) (s .wakes) none) refl) (c .silent .ensures))

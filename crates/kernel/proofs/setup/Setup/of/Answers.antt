@@ -15,11 +15,12 @@ loop-task-holds c = ((λ k lt. absurd (omega arith)), (λ k lt. absurd (omega ar
 pub loop-task-again : need.loop-task-again
 loop-task-again c =
     let i = c .loop-task .inv in
-    let b = c .args .book .bytes .now in
-    (agrees-more (c .loop-task .registered) false (registeredIn b) (c .loop-task .task) (c .registered .result) (omega (arith, i .2)) (c .registered .ensures) (i .0),
-    agrees-more (c .loop-task .written) 0 (levelIn b) (c .loop-task .task) (c .level .result) (omega (arith, i .3)) (c .level .ensures) (i .1),
-    length-set (c .loop-task .registered) (c .loop-task .task) (c .registered .result) ∙ i .2,
-    length-set (c .loop-task .written) (c .loop-task .task) (c .level .result) ∙ i .3)
+    let b = c .args .book .bytes .now in (
+      agrees-more (c .loop-task .registered) false (registeredIn b) (c .loop-task .task) (c .registered .result) (omega (arith, i .2)) (c .registered .ensures) (i .0),
+      agrees-more (c .loop-task .written) 0 (levelIn b) (c .loop-task .task) (c .level .result) (omega (arith, i .3)) (c .level .ensures) (i .1),
+      length-set (c .loop-task .registered) (c .loop-task .task) (c .registered .result) ∙ i .2,
+      length-set (c .loop-task .written) (c .loop-task .task) (c .level .result) ∙ i .3,
+    )
 
 pub ghost-result : need.ghost-result
 ghost-result c =

@@ -22,10 +22,13 @@ ghost-self g c =
     let row = replicate 17 false in
     let sizes = s .sized in
     let lt : t < length (s .factors) = omega (arith, sizes .2) in
-    let rows = rows-kept (s .factors) t 17 row lt refl (λ u lu. s .seventeen u (omega (arith, sizes .2))) in
-    (ranked-set (s .levels) t (c .args .written) (c .pre .2) (s .ranked),
-    ((length-set (s .released) t false ∙ sizes .0, length-set (s .levels) t (c .args .written) ∙ sizes .1, length-set (s .factors) t row ∙ sizes .2),
-    ((λ u lu. rows u (omega (arith, sizes .2))), tt)))
+    let rows = rows-kept (s .factors) t 17 row lt refl (λ u lu. s .seventeen u (omega (arith, sizes .2))) in (
+      ranked-set (s .levels) t (c .args .written) (c .pre .2) (s .ranked),
+      (
+        (length-set (s .released) t false ∙ sizes .0, length-set (s .levels) t (c .args .written) ∙ sizes .1, length-set (s .factors) t row ∙ sizes .2),
+        ((λ u lu. rows u (omega (arith, sizes .2))), tt),
+      ),
+    )
 
 pub returns : need.returns
 returns g c =
@@ -41,8 +44,8 @@ returns g c =
       count = c .clear-count .ensures .answer;
       bound = omega (arith, c .clear-count .ensures .answer, g .R·Roll·met .sound (s .roll) .0 .1 t);
       state = same-tasks
-        (table-put (s .released) t false false (omega (arith, sizes .0)))
-        (table-put (s .levels) t (c .args .written) 0 (omega (arith, sizes .1)))
-        (nested-put (s .factors) t row (omega (arith, sizes .2)) ∙ ap (λ (f : ℕ → Bool). put (nested (s .factors)) t f) (none-table 17))
-        (roll ∙ ap (λ (x : Model). let r : Model = record { entries = x .entries; held = put (x .held) t false } in r) cleared);
+          (table-put (s .released) t false false (omega (arith, sizes .0)))
+          (table-put (s .levels) t (c .args .written) 0 (omega (arith, sizes .1)))
+          (nested-put (s .factors) t row (omega (arith, sizes .2)) ∙ ap (λ (f : ℕ → Bool). put (nested (s .factors)) t f) (none-table 17))
+          (roll ∙ ap (λ (x : Model). let r : Model = record { entries = x .entries; held = put (x .held) t false } in r) cleared);
     }

@@ -19,5 +19,5 @@ returns g c =
     record {
       answer = c .in-Some .ensures tt .value;
       state = ap (λ (f : ℕ → ℕ → Bool). let r : Tasks = record { released = v .released; level = v .level; factors = f; roll = v .roll } in r)
-        (mark-put (s .factors) (c .args .task) (c .in-Some .factor) false lt lx);
+          (mark-put (s .factors) (c .args .task) (c .in-Some .factor) false lt lx);
     }
