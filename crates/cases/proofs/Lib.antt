@@ -1,2 +1,11 @@
 pub mod Sampled
 pub mod Broken
+pub mod Walks
+pub mod Queues
+pub mod Calls
+pub mod Gets
+pub mod Ages
+pub mod Fills
+pub mod Midnights
+pub mod Stays
+pub mod Edged

@@ -2,3 +2,4 @@ pub mod Made
 pub mod Samples
 pub mod Notions
 pub mod Refuted
+pub mod Edges

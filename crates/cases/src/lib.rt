@@ -1,4 +1,7 @@
-//! Cases of the laws: sample histories on which they hold, and histories of wrong stations that they refute.
+//! Cases of the laws: sample histories on which they hold, and histories of wrong stations that they refute. And the
+//! edges of the rules.
+
+pub mod edges;
 
 ghost use Rattle.cases.specs.Made.{alike};
 ghost use Rattle.cases.specs.Samples.{Samples};
