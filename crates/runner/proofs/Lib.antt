@@ -1,0 +1,6 @@
+mod Numbers
+mod Moves
+mod Asks
+mod Rows
+mod Sent
+mod Listed
