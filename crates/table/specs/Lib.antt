@@ -3,3 +3,4 @@ pub mod Rows
 pub mod Timers
 pub mod Wakes
 pub mod Clocks
+pub mod Times

@@ -7,4 +7,5 @@ pub mod firing;
 pub mod row;
 pub mod selection;
 pub mod timer;
+pub mod times;
 pub mod wake;
