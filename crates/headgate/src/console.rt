@@ -1,6 +1,5 @@
 //! Standard output as a sink.
 
-ghost use mathlib.Core.Path.{_≡_};
 use runner::Sink;
 use std::io;
 use std::io::Stdout;
@@ -8,13 +7,7 @@ use std::io::Write;
 
 #[derive(Drop)]
 pub struct Console {
-    out: Stdout,
-}
-
-impl Console {
-    pub fn new(rt: &LibcRuntime) -> Console {
-        Console { out: rt.stdout() }
-    }
+    pub out: Stdout,
 }
 
 // Nothing can be said of what a program has written, so that the model says nothing.

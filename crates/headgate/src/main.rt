@@ -38,6 +38,6 @@ fn read_book(rt: &LibcRuntime, bytes: &mut [u8]) -> io::Result<usize>
 fn main(rt: LibcRuntime) -> io::Result<()> {
     let mut bytes = [0; ROOM];
     let len = read_book(&rt, &mut bytes)?;
-    let mut console = Console::new(&rt);
+    let mut console = Console { out: rt.stdout() };
     runner::run(Lever::new(Packed::new()), &bytes[0..len], &mut console)
 }

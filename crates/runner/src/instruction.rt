@@ -49,24 +49,36 @@ impl Instruction {
         ensures { λ r. ⌜ r ≡ meant letter fields ⌝ }
     {
         let Fields { task, x, t, cycle } = fields;
-        Instruction::Macro(match letter {
-            Letter::Rleas => Macro::Rleas { task },
-            Letter::Queue => Macro::Queue { task, factor: x },
-            Letter::Abort => Macro::Abort { task },
-            Letter::Delay => Macro::Delay { t },
-            Letter::Timer => Macro::Timer { task, t, cycle, factor: x },
-            Letter::Ctime => Macro::Ctime { task, factor: x },
-            Letter::Chap => Macro::Chap { task, level: x },
-            Letter::Sfact => Macro::Sfact { task, factor: x },
-            Letter::Gfact => Macro::Gfact,
-            Letter::Susp => Macro::Susp { task },
-            Letter::Rsum => Macro::Rsum { task },
-            Letter::Wake => Macro::Wake { task, factor: x, second: t, cycle },
-            Letter::Cwake => Macro::Cwake { task, factor: x },
-            Letter::Stime => Macro::Stime { second: t },
-            Letter::Exit => Macro::Exit,
-            Letter::Jump => return Instruction::Jump { x, t },
-        })
+        Instruction::Macro(
+            match letter {
+                Letter::Rleas => Macro::Rleas { task },
+                Letter::Queue => Macro::Queue { task, factor: x },
+                Letter::Abort => Macro::Abort { task },
+                Letter::Delay => Macro::Delay { t },
+                Letter::Timer => Macro::Timer {
+                    task,
+                    t,
+                    cycle,
+                    factor: x,
+                },
+                Letter::Ctime => Macro::Ctime { task, factor: x },
+                Letter::Chap => Macro::Chap { task, level: x },
+                Letter::Sfact => Macro::Sfact { task, factor: x },
+                Letter::Gfact => Macro::Gfact,
+                Letter::Susp => Macro::Susp { task },
+                Letter::Rsum => Macro::Rsum { task },
+                Letter::Wake => Macro::Wake {
+                    task,
+                    factor: x,
+                    second: t,
+                    cycle,
+                },
+                Letter::Cwake => Macro::Cwake { task, factor: x },
+                Letter::Stime => Macro::Stime { second: t },
+                Letter::Exit => Macro::Exit,
+                Letter::Jump => return Instruction::Jump { x, t },
+            },
+        )
     }
 }
 

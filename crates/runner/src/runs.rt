@@ -21,7 +21,14 @@ use sheet::Event;
 use sheet::Kind;
 
 // One step: the task with the processor, if any, does a row or exits, and then a millisecond passes.
-fn take_step<R: Roll, S: Sink>(scripted: &mut ScriptedStation<R>, book: Book<'_>, step: u32, sheet: &mut [Event], buffer: &mut Buffer, sink: &mut S) -> Result<(), S::Error>
+fn take_step<R: Roll, S: Sink>(
+    scripted: &mut ScriptedStation<R>,
+    book: Book<'_>,
+    step: u32,
+    sheet: &mut [Event],
+    buffer: &mut Buffer,
+    sink: &mut S,
+) -> Result<(), S::Error>
     requires { ⌜ length (now sheet) ≡ 100 ⌝ }
     ensures progress { λ r. ⌜ made r (λ _. progressIn (R·Roll .meaning) (R·Roll .lever) (now (scripted .exit)) ≡ stepped (book .entry .bytes .now) (progressIn (R·Roll .meaning) (R·Roll .lever) (now (scripted .entry))) .progress) ⌝ }
     ensures lines { λ r. ⌜ made r (λ _. sent (S·Sink .state) (S·Sink .took) (now (sink .exit)) (now (buffer .exit)) ≡ S·Sink .took (sent (S·Sink .state) (S·Sink .took) (now (sink .entry)) (now (buffer .entry))) (eventLines step (stepped (book .entry .bytes .now) (progressIn (R·Roll .meaning) (R·Roll .lever) (now (scripted .entry))) .told))) ⌝ }
@@ -34,7 +41,13 @@ fn take_step<R: Roll, S: Sink>(scripted: &mut ScriptedStation<R>, book: Book<'_>
 }
 
 // All steps of a book, from power-up on.
-fn take_steps<R: Roll, S: Sink>(scripted: &mut ScriptedStation<R>, book: Book<'_>, sheet: &mut [Event], buffer: &mut Buffer, sink: &mut S) -> Result<(), S::Error>
+fn take_steps<R: Roll, S: Sink>(
+    scripted: &mut ScriptedStation<R>,
+    book: Book<'_>,
+    sheet: &mut [Event],
+    buffer: &mut Buffer,
+    sink: &mut S,
+) -> Result<(), S::Error>
     requires sheet { ⌜ length (now sheet) ≡ 100 ⌝ }
     requires began { ⌜ progressIn (R·Roll .meaning) (R·Roll .lever) (now scripted) ≡ poweredUp (R·Roll .lever) (book .bytes .now) ⌝ }
     ensures progress { λ r. ⌜ made r (λ _. progressIn (R·Roll .meaning) (R·Roll .lever) (now (scripted .exit)) ≡ progressAfter (R·Roll .lever) (book .entry .bytes .now) (stepsIn (book .entry .bytes .now))) ⌝ }
@@ -47,7 +60,12 @@ fn take_steps<R: Roll, S: Sink>(scripted: &mut ScriptedStation<R>, book: Book<'_
 }
 
 // Carries out a book without faults.
-fn carry_out<R: Roll + Drop, S: Sink>(roll: R, book: Book<'_>, buffer: &mut Buffer, sink: &mut S) -> Result<(), S::Error>
+fn carry_out<R: Roll + Drop, S: Sink>(
+    roll: R,
+    book: Book<'_>,
+    buffer: &mut Buffer,
+    sink: &mut S,
+) -> Result<(), S::Error>
     ensures { λ r. ⌜ made r (λ _. sent (S·Sink .state) (S·Sink .took) (now (sink .exit)) (now (buffer .exit)) ≡ S·Sink .took (sent (S·Sink .state) (S·Sink .took) (now (sink .entry)) (now (buffer .entry))) (runLines (R·Roll .lever) (book .entry .bytes .now))) ⌝ }
 {
     let accepted = Event {
@@ -69,7 +87,12 @@ fn carry_out<R: Roll + Drop, S: Sink>(roll: R, book: Book<'_>, buffer: &mut Buff
 }
 
 // Carries out the book in these bytes, or says why it is refused.
-fn write_listing<R: Roll + Drop, S: Sink>(roll: R, bytes: &[u8], buffer: &mut Buffer, sink: &mut S) -> Result<(), S::Error>
+fn write_listing<R: Roll + Drop, S: Sink>(
+    roll: R,
+    bytes: &[u8],
+    buffer: &mut Buffer,
+    sink: &mut S,
+) -> Result<(), S::Error>
     ensures { λ r. ⌜ made r (λ _. sent (S·Sink .state) (S·Sink .took) (now (sink .exit)) (now (buffer .exit)) ≡ S·Sink .took (sent (S·Sink .state) (S·Sink .took) (now (sink .entry)) (now (buffer .entry))) (listing (R·Roll .lever) (now (bytes .entry)))) ⌝ }
 {
     let reading = Book::read(bytes);

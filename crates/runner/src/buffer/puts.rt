@@ -65,7 +65,12 @@ impl Buffer {
     }
 
     // Adds a line for each event of a step.
-    pub(crate) fn add_events<S: Sink>(&mut self, step: u32, events: &[Event], sink: &mut S) -> Result<(), S::Error>
+    pub(crate) fn add_events<S: Sink>(
+        &mut self,
+        step: u32,
+        events: &[Event],
+        sink: &mut S,
+    ) -> Result<(), S::Error>
         ensures { λ r. ⌜ made r (λ _. sent (S·Sink .state) (S·Sink .took) (now (sink .exit)) (now (self .exit)) ≡ S·Sink .took (sent (S·Sink .state) (S·Sink .took) (now (sink .entry)) (now (self .entry))) (eventLines step (now (events .entry)))) ⌝ }
     {
         for event in events {

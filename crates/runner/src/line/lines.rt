@@ -12,11 +12,11 @@ pub fn event_line(step: u32, event: Event) -> Line
 {
     let mut line = Line::new();
     line.push_number(step as usize);
-    line.push(b' ');
+    line.separate();
     line.push_all(event.kind.word());
-    line.push(b' ');
+    line.separate();
     line.push_number(event.task as usize);
-    line.push(b'\n');
+    line.end();
     line
 }
 
@@ -25,9 +25,10 @@ pub fn left_line(left: u8) -> Line
     ensures { λ r. ⌜ bytesOf r ≡ leftLine left ⌝ }
 {
     let mut line = Line::new();
-    line.push_all(b"left ");
+    line.push_all(b"left");
+    line.separate();
     line.push_number(left as usize);
-    line.push(b'\n');
+    line.end();
     line
 }
 
@@ -36,10 +37,11 @@ pub fn fault_line(fault: Fault) -> Line
     ensures { λ r. ⌜ bytesOf r ≡ faultLine fault ⌝ }
 {
     let mut line = Line::new();
-    line.push_all(b"book ");
+    line.push_all(b"book");
+    line.separate();
     line.push_number(fault.cause.number() as usize);
-    line.push(b' ');
+    line.separate();
     line.push_number(fault.place);
-    line.push(b'\n');
+    line.end();
     line
 }

@@ -5,7 +5,7 @@ ghost use mathlib.Core.List.{[], _∷_, _++_};
 ghost use Prim.Native.Nat.{_+_, _<_, _≤_};
 ghost use lib.ListN.{length};
 ghost use Rattle.std.specs.Written.{decimal};
-ghost use Rattle.runner.specs.Lines.{bytesOf};
+ghost use Rattle.runner.specs.Lines.{bytesOf, space, feed};
 use super::Line;
 
 impl Line {
@@ -58,5 +58,23 @@ impl Line {
             self.push_number(n / 10);
         }
         self.push(b'0' + (n % 10) as u8);
+    }
+
+    // One space, between the parts of a line.
+    pub(crate) fn separate(&mut self)
+        requires { ⌜ now self .len < 64 ⌝ }
+        ensures bytes { λ _. ⌜ bytesOf (now (self .exit)) ≡ bytesOf (now (self .entry)) ++ space ⌝ }
+        ensures len { λ _. ⌜ now (self .exit) .len ≡ now (self .entry) .len + 1 ⌝ }
+    {
+        self.push(b' ');
+    }
+
+    // The line feed that ends every line.
+    pub(crate) fn end(&mut self)
+        requires { ⌜ now self .len < 64 ⌝ }
+        ensures bytes { λ _. ⌜ bytesOf (now (self .exit)) ≡ bytesOf (now (self .entry)) ++ feed ⌝ }
+        ensures len { λ _. ⌜ now (self .exit) .len ≡ now (self .entry) .len + 1 ⌝ }
+    {
+        self.push(b'\n');
     }
 }

@@ -80,9 +80,9 @@ impl<R: Roll> ScriptedStation<R> {
         ensures told { λ r. ⌜ take r (now (sheet .exit)) ≡ calling (progressIn (R·Roll .meaning) (R·Roll .lever) (now (self .entry)) .station) (progressIn (R·Roll .meaning) (R·Roll .lever) (now (self .entry)) .positions) call .told ⌝ }
         ensures within { λ r. ⌜ r ≤ 100 ⌝ }
     {
-        let told = calls::ask(&mut self.station, call, sheet).told;
-        self.positions.set_back(&sheet[0..told]);
-        told
+        let count = calls::ask(&mut self.station, call, sheet).told;
+        self.positions.set_back(&sheet[0..count]);
+        count
     }
 
     // The task with the processor, if any, does the row that it stands at, or exits where its script is at its end;

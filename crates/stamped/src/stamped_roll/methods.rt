@@ -2,7 +2,7 @@
 ghost use mathlib.Core.Path.{_≡_};
 ghost use mathlib.Core.Bool.{true, false, _&&_, cond};
 ghost use mathlib.Core.List.{[], _∷_, _++_};
-ghost use Prim.Native.Nat.{_+_, _<_};
+ghost use Prim.Native.Nat.{_+_, _<_, _≤_};
 ghost use lib.Dec.{ltb};
 ghost use lib.ListN.{length};
 ghost use Rattle.roll.specs.Ranges.{task?, level?};
@@ -102,9 +102,11 @@ impl Stamped {
     fn renumber(&mut self)
         ensures slots { λ _. ⌜ now (self .exit) .slots ≡ renumbered (now (self .entry) .slots) ⌝ }
         ensures next { λ _. ⌜ now (self .exit) .next ≡ length (meaningOf (now (self .entry)) .entries) ⌝ }
+        ensures small { λ _. ⌜ now (self .exit) .next ≤ 254 ⌝ }
         ensures same { λ _. ⌜ meaningOf (now (self .exit)) .entries ≡ meaningOf (now (self .entry)) .entries ⌝ }
     {
-        self.next = renumber(&mut self.slots);
+        let count = renumber(&mut self.slots);
+        self.next = count;
     }
 
     // Renumbers where the next stamp would pass 65,535, and changes nothing where it would not.
@@ -113,7 +115,8 @@ impl Stamped {
         ensures room { λ _. ⌜ now (self .exit) .next < 65536 ⌝ }
         ensures same { λ _. ⌜ meaningOf (now (self .exit)) .entries ≡ meaningOf (now (self .entry)) .entries ⌝ }
     {
-        if self.next > 65535 {
+        let used_up = self.next > 65535;
+        if used_up {
             self.renumber();
         }
     }

@@ -20,7 +20,7 @@ returns g c =
     record {
       progress = tick .progress ∙ ap (λ (x : Progress). tickDone x .progress) (row .progress);
       lines = events-both (g .S·Sink .took) (g .S·Sink·met .joined) (gone (c .args .sink .now) (c .args .buffer .now)) (gone (c .add-events .last .sink) (c .add-events .last .self)) (gone (c .add-events-2 .last .sink) (c .add-events-2 .last .self))
-        (c .args .step) (rowDone b p .told) (take (told - 0) (c .do-row-told .last .sheet)) (tickDone (rowDone b p .progress) .told) (take (told′ - 0) (c .do-tick-told .last .sheet))
-        (front-part told (c .do-row-told .last .sheet) ∙ row .told) (front-part told′ (c .do-tick-told .last .sheet) ∙ tick .told ∙ ap (λ (x : Progress). tickDone x .told) (row .progress))
-        (c .in-Continue-add-events .ensures tt) (c .in-Continue-add-events-2 .ensures tt);
+          (c .args .step) (rowDone b p .told) (take (told - 0) (c .do-row-told .last .sheet)) (tickDone (rowDone b p .progress) .told) (take (told′ - 0) (c .do-tick-told .last .sheet))
+          (front-part told (c .do-row-told .last .sheet) ∙ row .told) (front-part told′ (c .do-tick-told .last .sheet) ∙ tick .told ∙ ap (λ (x : Progress). tickDone x .told) (row .progress))
+          (c .in-Continue-add-events .ensures tt) (c .in-Continue-add-events-2 .ensures tt);
     }

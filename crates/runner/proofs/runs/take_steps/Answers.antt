@@ -29,10 +29,11 @@ loop-done-again g c =
     let m = gone (c .args .sink .now) (c .args .buffer .now) in
     let m₁ = gone (c .loop-done .sink) (c .loop-done .buffer) in
     let m₂ = gone (c .take-step .last .sink) (c .take-step .last .buffer) in
-    let lines = eventLines (n + 1) (stepped b (progressAfter lever b n) .told) in
-    (e .progress ∙ ap (λ (x : Progress). stepped b x .progress) (inv .0) ∙ sym (after-more lever b n),
-    took-two (g .S·Sink .took) (g .S·Sink·met .joined) m m₁ m₂ (stepLines lever b n) lines (inv .1) (e .lines ∙ ap (λ (x : Progress). g .S·Sink .took m₁ (eventLines (n + 1) (stepped b x .told))) (inv .0))
-    ∙ ap (g .S·Sink .took m) (sym (lines-after lever b n)))
+    let lines = eventLines (n + 1) (stepped b (progressAfter lever b n) .told) in (
+      e .progress ∙ ap (λ (x : Progress). stepped b x .progress) (inv .0) ∙ sym (after-more lever b n),
+      took-two (g .S·Sink .took) (g .S·Sink·met .joined) m m₁ m₂ (stepLines lever b n) lines (inv .1) (e .lines ∙ ap (λ (x : Progress). g .S·Sink .took m₁ (eventLines (n + 1) (stepped b x .told))) (inv .0))
+          ∙ ap (g .S·Sink .took m) (sym (lines-after lever b n)),
+    )
 
 pub returns : need.returns
 returns g c =

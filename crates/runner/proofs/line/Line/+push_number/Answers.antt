@@ -27,22 +27,22 @@ pub returns : need.returns
 returns t c =
     elim (c .if-n-ge10 .came) [
       | then-n-ge10 w ↦
-        let d = decimal-step (c .args .n) (w .if-n-ge10 .taken) (omega arith) in
-        let e = more-digits (c .args .n) (w .if-n-ge10 .taken) (omega arith) in
-        record {
-          bytes = c .push .ensures .bytes
-            ∙ ap (λ (l : Line). bytesOf l ++ ((48 + c .args .n % 10) ∷ [])) (w .self-is)
-            ∙ ap (λ (l : List ℕ). l ++ ((48 + c .args .n % 10) ∷ [])) (w .push-number .ensures .bytes)
-            ∙ append-assoc (bytesOf (c .args .self .now)) (decimal (c .args .n / 10)) ((48 + c .args .n % 10) ∷ [])
-            ∙ ap (λ (l : List ℕ). bytesOf (c .args .self .now) ++ l) (sym d);
-          len = omega (arith, e, c .push .ensures .len, ap (λ (l : Line). l .len) (w .self-is), w .push-number .ensures .len);
-        }
+          let d = decimal-step (c .args .n) (w .if-n-ge10 .taken) (omega arith) in
+          let e = more-digits (c .args .n) (w .if-n-ge10 .taken) (omega arith) in
+          record {
+            bytes = c .push .ensures .bytes
+                ∙ ap (λ (l : Line). bytesOf l ++ ((48 + c .args .n % 10) ∷ [])) (w .self-is)
+                ∙ ap (λ (l : List ℕ). l ++ ((48 + c .args .n % 10) ∷ [])) (w .push-number .ensures .bytes)
+                ∙ append-assoc (bytesOf (c .args .self .now)) (decimal (c .args .n / 10)) ((48 + c .args .n % 10) ∷ [])
+                ∙ ap (λ (l : List ℕ). bytesOf (c .args .self .now) ++ l) (sym d);
+            len = omega (arith, e, c .push .ensures .len, ap (λ (l : Line). l .len) (w .self-is), w .push-number .ensures .len);
+          }
       | else-n-ge10 w ↦
-        let less : c .args .n < 10 = omega (arith, w .if-n-ge10 .left) in
-        record {
-          bytes = c .push .ensures .bytes
-            ∙ ap (λ (l : Line). bytesOf l ++ ((48 + c .args .n % 10) ∷ [])) (w .self-is)
-            ∙ ap (λ (l : List ℕ). bytesOf (c .args .self .now) ++ l) (sym (last-digit (c .args .n) less));
-          len = omega (arith, c .push .ensures .len, ap (λ (l : Line). l .len) (w .self-is), one-digit (c .args .n) less);
-        }
+          let less : c .args .n < 10 = omega (arith, w .if-n-ge10 .left) in
+          record {
+            bytes = c .push .ensures .bytes
+                ∙ ap (λ (l : Line). bytesOf l ++ ((48 + c .args .n % 10) ∷ [])) (w .self-is)
+                ∙ ap (λ (l : List ℕ). bytesOf (c .args .self .now) ++ l) (sym (last-digit (c .args .n) less));
+            len = omega (arith, c .push .ensures .len, ap (λ (l : Line). l .len) (w .self-is), one-digit (c .args .n) less);
+          }
     ]

@@ -18,6 +18,6 @@ returns c =
     let size : line .len + length (c .args .more .now) ≡ line .len + length now = ap (λ (l : List ℕ). line .len + length l) (sym (c .copy-from-slice .ensures .after)) in
     record {
       bytes = take-putMid (line .len) (line .len + length (c .args .more .now) - line .len) (line .bytes) now (line .len + length (c .args .more .now)) size (omega arith)
-        ∙ ap (λ (l : List ℕ). take (line .len) (line .bytes) ++ l) (c .copy-from-slice .ensures .after);
+          ∙ ap (λ (l : List ℕ). take (line .len) (line .bytes) ++ l) (c .copy-from-slice .ensures .after);
       len = refl;
     }

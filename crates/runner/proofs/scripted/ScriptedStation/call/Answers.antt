@@ -9,8 +9,8 @@ use Rattle.runner.proofs.scripted.ScriptedStation.call.Needs as need
 
 pub returns : need.returns
 returns g c =
-    let e = c .ask-told .ensures in
-    let told = front-part (c .ask-told .result .told) (c .ask-told .last .sheet) ∙ e .told in
+    let e = c .ask-count .ensures in
+    let told = front-part (c .ask-count .result .told) (c .ask-count .last .sheet) ∙ e .told in
     record {
       progress = same-progress (e .station) (c .set-back .ensures ∙ ap (λ (l : List Event). setBackBy (positionsIn (c .args .self .now .positions)) l) told);
       told = e .told;

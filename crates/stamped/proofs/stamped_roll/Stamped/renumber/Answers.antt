@@ -18,10 +18,10 @@ ghost-self c =
     let n = c .args .self .now .next in
     let len = c .args .self .now .whole in
     let o = orderly-of (c .args .self .now) in
-    let p = c .renumber-self .ensures .stamps in
-    let q = c .renumber-self .ensures .count in
+    let p = c .renumber-count .ensures .stamps in
+    let q = c .renumber-count .ensures .count in
     let few = renumbered-few xs n o len in
-    let r = subst (λ (l : List Slot). Orderly l (c .renumber-self .result)) (sym p) (subst (λ (k : ℕ). Orderly (renumbered xs) k) (sym q) (renumbered-orderly xs n o)) in
+    let r = subst (λ (l : List Slot). Orderly l (c .renumber-count .result)) (sym p) (subst (λ (k : ℕ). Orderly (renumbered xs) k) (sym q) (renumbered-orderly xs n o)) in
     (ap length p ∙ simp length-map len, (omega arith, (r .apart, (r .good, tt))))
 
 pub returns : need.returns
@@ -29,10 +29,11 @@ returns c =
     let xs = c .args .self .now .slots in
     let n = c .args .self .now .next in
     let o = orderly-of (c .args .self .now) in
-    let p = c .renumber-self .ensures .stamps in
-    let q = c .renumber-self .ensures .count in
+    let p = c .renumber-count .ensures .stamps in
+    let q = c .renumber-count .ensures .count in
     record {
       slots = p;
       next = q ∙ renumbered-count xs n o;
-      same = ap (λ (l : List Slot). listed l (c .renumber-self .result)) p ∙ ap (listed (renumbered xs)) q ∙ renumbered-listed xs n o;
+      small = let few = renumbered-few xs n o (c .args .self .now .whole) in omega arith;
+      same = ap (λ (l : List Slot). listed l (c .renumber-count .result)) p ∙ ap (listed (renumbered xs)) q ∙ renumbered-listed xs n o;
     }
