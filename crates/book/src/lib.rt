@@ -3,6 +3,8 @@
 //! A header names two sections, the task rows and the instruction rows (`sections`, `letters`).
 //! `check` tells the first fault of a book (`checking`, `faults`); `Book` reads one that has none (`reader`).
 
+#![tactic(auto)]
+
 mod checking;
 mod faults;
 mod letters;

@@ -1,5 +1,7 @@
 //! Makes calls on a station, one a line, over the roll that the first argument names.
 
+#![tactic(auto)]
+
 mod order;
 mod text;
 

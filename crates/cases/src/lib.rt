@@ -1,6 +1,8 @@
 //! Cases of the laws: sample histories on which they hold, and histories of wrong stations that they refute. And the
 //! edges of the rules.
 
+#![tactic(auto)]
+
 pub mod edges;
 
 ghost use Rattle.cases.specs.Made.{alike};

@@ -1,6 +1,8 @@
 //! The program: a task book on standard input, its listing on standard output. It runs over the lever on the packed
 //! roll. The one line of a refused book is a listing too, so that it ends with status 0.
 
+#![tactic(auto)]
+
 ghost use Rattle.std.specs.Prelude.{◌≤◌, length, IfOk};
 
 mod console;

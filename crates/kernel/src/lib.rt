@@ -1,5 +1,7 @@
 //! The kernel of a station: over any roll, what every call does. The station above hands out its calls and their laws.
 
+#![tactic(auto)]
+
 mod kernel;
 mod setup;
 

@@ -1,6 +1,8 @@
 //! The laws of the station: what holds of everything that was asked and told since power-up, proved from the rules
 //! alone, for any station that keeps them.
 
+#![tactic(auto)]
+
 ghost use Rattle.rules.specs.State.{Setup};
 ghost use Rattle.laws.specs.Laws.{Numbered, Always};
 

@@ -1,3 +1,5 @@
+#![tactic(auto)]
+
 // The lever: what holds tasks, put over any roll.
 mod holds;
 mod lever_roll;

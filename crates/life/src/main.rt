@@ -1,5 +1,7 @@
 //! A short life of a station, from power-up to stop: the order that the types ask for.
 
+#![tactic(auto)]
+
 use book::Book;
 use packed::Packed;
 use sheet::{Event, Kind};

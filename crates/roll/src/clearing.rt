@@ -6,7 +6,7 @@ use crate::Roll;
 
 // Takes every entry and every hold away.
 pub fn clear_all<R: Roll>(roll: &mut R)
-    ensures { meaning roll.new ≡ empty }
+    ensures { R.Roll.meaning roll.new ≡ empty }
 {
     for task in 1..=127 {
         let _ = roll.clear(task);

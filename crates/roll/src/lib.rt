@@ -1,3 +1,5 @@
+#![tactic(auto)]
+
 // The roll: the queue of the starts that wait for the processor.
 ghost use Rattle.std.specs.Prelude.{◌≡◌, Bool, false};
 ghost use Rattle.roll.specs.Tables.{none};

@@ -1,6 +1,8 @@
 //! The rules of the calls: what can be asked of a station and what it answers, as enums, and in specs/ what each call
 //! does. The station above is proved to do just that.
 
+#![tactic(auto)]
+
 mod answer;
 mod call;
 mod fields;

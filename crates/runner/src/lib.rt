@@ -1,5 +1,7 @@
 //! The runner: it carries out a task book, step by step, and hands on a line for each event.
 
+#![tactic(auto)]
+
 mod buffer;
 mod instruction;
 mod line;

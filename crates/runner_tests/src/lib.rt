@@ -1,4 +1,6 @@
 //! Whole runs over the lever on the packed roll, with the lines that the rules give for them.
 
+#![tactic(auto)]
+
 #[cfg(test)]
 mod tests;

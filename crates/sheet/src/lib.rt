@@ -1,5 +1,7 @@
 //! The event sheet: the records in which a call tells its caller what happened, lent for each call.
 
+#![tactic(auto)]
+
 mod event;
 mod write;
 

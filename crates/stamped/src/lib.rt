@@ -1,3 +1,5 @@
+#![tactic(auto)]
+
 // The stamped roll: two stamps for each task, in memory of a fixed size.
 mod candidate;
 mod renumbering;

@@ -1,6 +1,8 @@
 //! The station: over any roll, what runs the tasks of one cabinet. A cold station knows only power-up, a live one the
 //! calls, and stop ends it.
 
+#![tactic(auto)]
+
 mod cold;
 mod driving;
 mod live;

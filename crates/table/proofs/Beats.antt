@@ -1,12 +1,12 @@
 -- A loop that beats the places of a row in their order.
-use Rattle.std.proofs.Common.{◌≡◌, ℕ, ◌+◌, ◌<◌, ◌≤◌, Bool, List, [], ◌∷◌, ◌++◌, length, get_or, take, drop, set, Some, None, fold, filter, Option, sym, refl, ap, ◌∙◌, subst, append_assoc, add-zero, arith}
+use Rattle.std.proofs.Common.{◌≡◌, ℕ, ◌+◌, ◌<◌, ◌≤◌, Bool, List, [], ◌∷◌, ◌++◌, length, get_or, take, drop, set, Some, None, fold, Option, sym, refl, ap, ◌∙◌, subst, append_assoc, add-zero, arith}
 use Rattle.std.specs.List.{flat_map}
 use Rattle.std.proofs.lemmas.List.{take_more, take_more_set, drop-set-lt, take_all, get_or-drop, drop-drop, length-set, append-nil, set-get_or}
 use Rattle.std.proofs.lemmas.List.Elements.{filter-append}
 use Rattle.sheet.specs.declared.event.Event.{Event}
 use Rattle.sheet.proofs.Fronts.{Writing, writing_more}
 use Rattle.table.specs.declared.firing.Firing.{Firing}
-use Rattle.table.specs.Rows.{entries, lefts, listed, firings, all_fired, all_told}
+use Rattle.table.specs.Rows.{entries, listed, firings, all_fired, all_told}
 
 pub joined_append : {X A : Type 0} (f : X → List A) (xs ys : List X) → flat_map f (xs ++ ys) ≡ flat_map f xs ++ flat_map f ys
 joined_append f [] ys = refl

@@ -1,12 +1,12 @@
 -- An entry of the timer table over any number of beats.
-use Rattle.std.proofs.Common.{◌≡◌, ℕ, zero, suc, ◌+◌, ◌-◌, ◌*◌, ◌<◌, ◌≤◌, Bool, true, false, cond, ◌||◌, eqb, leb, ◌⊎◌, Some, None, Option, sym, refl, ap, ◌∙◌, subst, inl, inr, mul-le-mul_right, suc-mul, zero-mul, arith}
+use Rattle.std.proofs.Common.{◌≡◌, ℕ, zero, suc, ◌+◌, ◌-◌, ◌*◌, ◌<◌, ◌≤◌, ◌⊎◌, Some, None, refl, ap, ◌∙◌, subst, inl, inr, mul-le-mul_right, suc-mul, zero-mul, arith}
 use Rattle.std.proofs.lemmas.Bool.{cases_eq, cases_lt}
 use Rattle.std.proofs.lemmas.Bool.Decides.{nat_tests}
 use Rattle.table.specs.declared.firing.Firing.{Firing}
-use Rattle.table.specs.declared.firing.Firing.TheVariants.{Start, Rouse}
+use Rattle.table.specs.declared.firing.Firing.TheVariants.{Start}
 use Rattle.table.specs.declared.timer.TimerPlace.{TimerPlace}
-use Rattle.table.specs.Timers.{timer_after, timer_fires, timer_place, delay_place, with_wait}
-use Rattle.table.specs.Times.{of_left, left_after, timer_left, timer_fired, Exactly, Once, KeepsTime, FiresOnce, RousesOnce}
+use Rattle.table.specs.Timers.{timer_after, timer_fires, timer_place, with_wait}
+use Rattle.table.specs.Times.{of_left, timer_left, timer_fired, Exactly, Once}
 
 -- one beat of an entry that has r beats to wait
 pub goes_on : (p : TimerPlace) (r : ℕ) → 2 ≤ r → timer_after (with_wait p r) ≡ Some (with_wait p (r - 1))

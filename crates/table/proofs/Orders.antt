@@ -1,9 +1,9 @@
 -- What a table takes while its places suffice, and that it refuses where they do not.
-use Rattle.std.proofs.Common.{◌≡◌, ℕ, ◌+◌, ◌<◌, ◌≤◌, cond, ltb, List, [], ◌∷◌, ◌++◌, length, refl, ap, ◌∙◌, arith}
+use Rattle.std.proofs.Common.{◌≡◌, ℕ, ◌<◌, ◌≤◌, ltb, List, [], ◌∷◌, ◌++◌, length, refl, ap, ◌∙◌, arith, Option}
 use Rattle.std.proofs.lemmas.List.{length-append}
 use Rattle.std.proofs.lemmas.Bool.{lt-ltb, le-ltb, cond-true, cond-false}
 use Rattle.table.specs.Rows.{lefts, added}
-use Rattle.table.specs.Times.{Deed, Deed.asks, Deed.beats, endless, limited, refusals, Fits, TakesWhatFits}
+use Rattle.table.specs.Times.{Deed, Deed.asks, Deed.beats, endless, limited, refusals, Fits}
 
 module _ {P B : Type 0} (after : B → P → Option P) (size : ℕ) where
   fits_now : (es : List P) (ds : List (Deed P B)) → Fits after size es ds → length es ≤ size

@@ -1,5 +1,5 @@
 -- A wake over any number of beats.
-use Rattle.std.proofs.Common.{◌≡◌, ℕ, zero, suc, ◌+◌, ◌-◌, ◌*◌, ◌<◌, ◌≤◌, Bool, true, false, cond, eqb, leb, ◌⊎◌, Some, None, Option, sym, refl, ap, ◌∙◌, inl, inr, suc-mul, zero-mul, arith}
+use Rattle.std.proofs.Common.{◌≡◌, ℕ, zero, suc, ◌+◌, ◌-◌, ◌*◌, ◌<◌, ◌≤◌, cond, eqb, ◌⊎◌, Some, None, sym, refl, ap, ◌∙◌, inl, inr, zero-mul, arith}
 use Rattle.std.proofs.lemmas.Bool.{lt-leb, eq-eqb, ne_eqb, cases_eq, cases_lt, cases_order}
 use Rattle.table.specs.declared.firing.Firing.TheVariants.{Start}
 use Rattle.table.specs.declared.wake.Phase.{Phase}

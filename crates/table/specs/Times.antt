@@ -1,10 +1,10 @@
 -- When an entry that nobody cancels fires, counted in the beats since its acceptance: the next beat is number 1.
-use Rattle.std.specs.Prelude.{◌≡◌, ℕ, zero, suc, ◌+◌, ◌*◌, ◌<◌, ◌≤◌, cond, ◌⊎◌, List, [], ◌∷◌, ◌++◌, length, Some, None, Option, ◌≢◌, nat_lt}
+use Rattle.std.specs.Prelude.{◌≡◌, ℕ, zero, suc, ◌+◌, ◌*◌, ◌<◌, ◌≤◌, cond, List, [], ◌∷◌, ◌++◌, length, Some, None, Option, ◌≢◌, nat_lt}
 use Rattle.table.specs.declared.firing.Firing.{Firing}
 use Rattle.table.specs.declared.firing.Firing.TheVariants.{Start, Rouse}
 use Rattle.table.specs.declared.timer.TimerPlace.{TimerPlace}
 use Rattle.table.specs.declared.wake.Phase.{Phase}
-use Rattle.table.specs.declared.wake.Phase.TheVariants.{Waits, Spent}
+use Rattle.table.specs.declared.wake.Phase.TheVariants.{Spent}
 use Rattle.table.specs.declared.wake.WakePlace.{WakePlace}
 use Rattle.table.specs.Rows.{lefts, firings, added}
 use Rattle.table.specs.Timers.{timer_after, timer_fires, timer_place, delay_place, with_wait}

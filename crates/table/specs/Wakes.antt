@@ -1,5 +1,5 @@
 -- The wake table's entries: a wake starts its task at a second of the day, and then again and again.
-use Rattle.std.specs.Prelude.{ℕ, ◌-◌, Bool, true, false, cond, ◌&&◌, Some, None, Option, ◌==◌, nat_le}
+use Rattle.std.specs.Prelude.{ℕ, ◌-◌, Bool, false, cond, ◌&&◌, Some, None, Option, ◌==◌, nat_le}
 use Rattle.table.specs.declared.wake.Phase.{Phase}
 use Rattle.table.specs.declared.wake.Phase.TheVariants.{Waits, Counts, Spent}
 use Rattle.table.specs.declared.wake.WakePlace.{WakePlace}

@@ -4,36 +4,36 @@ use Rattle.book.proofs.Order.{tells_size, tells_header, tells_rows, tells_none}
 use Rattle.book.proofs.First.{verdict_err, verdict_ok, first_is_told, only_told}
 use Rattle.book.proofs.checking.check.Goals as goal
 
-pub returns-in-err-check-size : goal.returns-in-err-check-size
-returns-in-err-check-size c =
+pub returns-in_err-check_size : goal.returns-in_err-check_size
+returns-in_err-check_size c =
     let b = c.args.bytes.now in
     let v =
-    verdict_err b _ _ (err_from_is_err_and c.from-residual.result c.from-residual.ensures.1)
-    (tells_size b (layout_of b) _ c.in-err-check-size.ensures.told) in
+    verdict_err b _ _ (err_from_is_err_and c.from_residual.result c.from_residual.ensures.1)
+    (tells_size b (layout_of b) _ c.in_err-check_size.ensures.told) in
     record { value = v; first = first_is_told b _ v; only = only_told b _ v }
 
-pub returns-in-err-layout : goal.returns-in-err-layout
-returns-in-err-layout c =
+pub returns-in_err-layout : goal.returns-in_err-layout
+returns-in_err-layout c =
     let b = c.args.bytes.now in
     let v =
-    verdict_err b _ _ (err_from_is_err_and c.from-residual-in-err-layout.result c.from-residual-in-err-layout.ensures.1)
-    (tells_header b (layout_of b) _ c.in-ok-check-size.ensures.told c.in-err-layout.ensures.told) in
+    verdict_err b _ _ (err_from_is_err_and c.from_residual-in_err-layout.result c.from_residual-in_err-layout.ensures.1)
+    (tells_header b (layout_of b) _ c.in_ok-check_size.ensures.told c.in_err-layout.ensures.told) in
     record { value = v; first = first_is_told b _ v; only = only_told b _ v }
 
-pub returns-in-err-check-rows : goal.returns-in-err-check-rows
-returns-in-err-check-rows c =
+pub returns-in_err-check_rows : goal.returns-in_err-check_rows
+returns-in_err-check_rows c =
     let b = c.args.bytes.now in
     let v =
-    verdict_err b _ _ (err_from_is_err_and c.from-residual-in-err-check-rows.result c.from-residual-in-err-check-rows.ensures.1)
-    (tells_rows b c.in-ok-layout.layout (layout_of b) _ c.in-ok-layout.ensures.layout
-    c.in-ok-check-size.ensures.told c.in-ok-layout.ensures.told c.in-err-check-rows.ensures) in
+    verdict_err b _ _ (err_from_is_err_and c.from_residual-in_err-check_rows.result c.from_residual-in_err-check_rows.ensures.1)
+    (tells_rows b c.in_ok-layout.layout (layout_of b) _ c.in_ok-layout.ensures.layout
+    c.in_ok-check_size.ensures.told c.in_ok-layout.ensures.told c.in_err-check_rows.ensures) in
     record { value = v; first = first_is_told b _ v; only = only_told b _ v }
 
 pub returns : goal.returns
 returns c =
     let b = c.args.bytes.now in
     let v =
-    verdict_ok b c.in-ok-layout.layout c.in-ok-layout.ensures.layout
-    (tells_none b c.in-ok-layout.layout (layout_of b) c.in-ok-layout.ensures.layout
-    c.in-ok-check-size.ensures.told c.in-ok-layout.ensures.told c.in-ok-check-rows.ensures) in
+    verdict_ok b c.in_ok-layout.layout c.in_ok-layout.ensures.layout
+    (tells_none b c.in_ok-layout.layout (layout_of b) c.in_ok-layout.ensures.layout
+    c.in_ok-check_size.ensures.told c.in_ok-layout.ensures.told c.in_ok-check_rows.ensures) in
     record { value = v; first = first_is_told b _ v; only = only_told b _ v }

@@ -1,4 +1,4 @@
-use Rattle.std.proofs.Common.{◌≡◌, length, set, sym, ap, ◌∙◌, arith}
+use Rattle.std.proofs.Common.{set, sym, ap, ◌∙◌, arith}
 use Rattle.std.proofs.lemmas.Bool.{lt-ltb, le-ltb}
 use Rattle.table.specs.Rows.{entries}
 use Rattle.table.proofs.Packs.{added, packed}
@@ -12,7 +12,7 @@ returns-then-count-places g c =
     record {
       room = sym (lt-ltb _ _ (omega arith));
       entries =
-          ap (λ q. entries live (set c.compact-count.new.places c.compact-count.result q)) c.to-place.ensures
+          ap (λ q. entries live (set c.compact-count.new.places c.compact-count.result q)) c.to_place.ensures
           ∙ added live c.args.places.now c.compact-count.new.places c.compact-count.result (g.E.TableEntry.place c.args.entry) lives c.if-count-places.true e.front e.behind;
     }
 

@@ -1,4 +1,4 @@
-use Rattle.std.proofs.Common.{◌≡◌, ◌+◌, ◌<◌, ◌≤◌, length, take, filter, sym, ap, ◌∙◌, add-zero, arith, rules}
+use Rattle.std.proofs.Common.{◌≡◌, ◌<◌, ◌≤◌, length, take, filter, sym, ap, ◌∙◌, add-zero, arith, rules}
 use Rattle.std.proofs.lemmas.List.{take_all}
 use Rattle.table.specs.Rows.{entries}
 use Rattle.table.proofs.Beats.{going_split, going_more, going_same, going_all}

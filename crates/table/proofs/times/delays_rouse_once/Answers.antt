@@ -1,6 +1,6 @@
 use Rattle.std.proofs.Common.{refl}
-use Rattle.table.specs.declared.firing.Firing.TheVariants.{Start, Rouse}
-use Rattle.table.specs.Timers.{timer_place, delay_place}
+use Rattle.table.specs.declared.firing.Firing.TheVariants.{Rouse}
+use Rattle.table.specs.Timers.{delay_place}
 use Rattle.table.proofs.Counts.{once}
 use Rattle.table.proofs.times.delays_rouse_once.Goals as goal
 

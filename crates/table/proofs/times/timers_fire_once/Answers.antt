@@ -1,6 +1,6 @@
 use Rattle.std.proofs.Common.{refl}
-use Rattle.table.specs.declared.firing.Firing.TheVariants.{Start, Rouse}
-use Rattle.table.specs.Timers.{timer_place, delay_place}
+use Rattle.table.specs.declared.firing.Firing.TheVariants.{Start}
+use Rattle.table.specs.Timers.{timer_place}
 use Rattle.table.proofs.Counts.{once}
 use Rattle.table.proofs.times.timers_fire_once.Goals as goal
 

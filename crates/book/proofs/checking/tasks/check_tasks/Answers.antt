@@ -7,29 +7,29 @@ use Rattle.book.proofs.Order.{at_exit, at_row_exit}
 use Rattle.book.proofs.TaskFaults.{tasks_head, tasks_later, tasks_none, below_one}
 use Rattle.book.proofs.checking.tasks.check_tasks.Goals as goal
 
-pub returns-in-err-and : goal.returns-in-err-and
-returns-in-err-and c =
-    at_exit (task_tests c.args.bytes.now c.args.layout) _ _ (err_from_is_err_and c.from-residual.result c.from-residual.ensures.1)
+pub returns-in_err-and : goal.returns-in_err-and
+returns-in_err-and c =
+    at_exit (task_tests c.args.bytes.now c.args.layout) _ _ (err_from_is_err_and c.from_residual.result c.from_residual.ensures.1)
     (tasks_head c.args.bytes.now c.args.layout _ c.requires.some
-    (and_err _ _ _ _ _ _ _ _ _ c.check-task-first.ensures c.check-task-one-task-one.ensures c.in-err-and.ensures))
+    (and_err _ _ _ _ _ _ _ _ _ c.check_task-first.ensures c.check_task_one-task_one.ensures c.in_err-and.ensures))
 
 pub loop-i-init : goal.loop-i-init
 loop-i-init c =
     below_one c.args.bytes.now c.args.layout
-    (and_ok _ _ _ _ _ _ _ _ _ c.check-task-first.ensures c.check-task-one-task-one.ensures c.in-ok-and.ensures).0
+    (and_ok _ _ _ _ _ _ _ _ _ c.check_task-first.ensures c.check_task_one-task_one.ensures c.in_ok-and.ensures).0
 
-pub returns-in-err-check-task : goal.returns-in-err-check-task
-returns-in-err-check-task c =
+pub returns-in_err-check_task : goal.returns-in_err-check_task
+returns-in_err-check_task c =
     at_row_exit (task_tests c.args.bytes.now c.args.layout) _ _ _ _ _
-    (err_from_is_err_and c.from-residual-in-err-check-task.result c.from-residual-in-err-check-task.ensures.1)
-    c.in-err-check-task.ensures
+    (err_from_is_err_and c.from_residual-in_err-check_task.result c.from_residual-in_err-check_task.ensures.1)
+    c.in_err-check_task.ensures
     (tasks_later c.args.bytes.now c.args.layout c.loop-i.i c.loop-i-test.true c.loop-i.invariant
-    (not-false _ (and_ok _ _ _ _ _ _ _ _ _ c.check-task-first.ensures c.check-task-one-task-one.ensures c.in-ok-and.ensures).1))
+    (not-false _ (and_ok _ _ _ _ _ _ _ _ _ c.check_task-first.ensures c.check_task_one-task_one.ensures c.in_ok-and.ensures).1))
 
 pub loop-i-preserved : goal.loop-i-preserved
-loop-i-preserved c = below_more _ _ c.loop-i.invariant (ok_passes _ _ _ _ c.in-ok-check-task.ensures)
+loop-i-preserved c = below_more _ _ c.loop-i.invariant (ok_passes _ _ _ _ c.in_ok-check_task.ensures)
 
 pub returns : goal.returns
 returns c =
     tasks_none _ c.args.layout (λ k h. c.loop-i.invariant k (omega arith))
-    (not-false _ (and_ok _ _ _ _ _ _ _ _ _ c.check-task-first.ensures c.check-task-one-task-one.ensures c.in-ok-and.ensures).1)
+    (not-false _ (and_ok _ _ _ _ _ _ _ _ _ c.check_task-first.ensures c.check_task_one-task_one.ensures c.in_ok-and.ensures).1)

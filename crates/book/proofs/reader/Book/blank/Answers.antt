@@ -2,5 +2,5 @@ use Rattle.std.proofs.Common.{refl}
 use Rattle.book.proofs.Clean.{blank_clean}
 use Rattle.book.proofs.reader.Book.blank.Goals as goal
 
-pub invariant-of-result : goal.invariant-of-result
-invariant-of-result c = (blank_clean, ((refl, refl), ((refl, refl), (refl, tt))))
+pub invariant_of-result : goal.invariant_of-result
+invariant_of-result c = record { sound = blank_clean; tasks = (refl, refl); instructions = (refl, refl); steps = refl }
