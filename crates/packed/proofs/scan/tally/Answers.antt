@@ -4,8 +4,8 @@ use Rattle.std.proofs.lemmas.List.{at_drop_more, at_drop_all}
 use Rattle.roll.specs.Entries.{of?, awake, count_of}
 use Rattle.packed.proofs.scan.tally.Goals as goal
 
-pub overflow-add-n : goal.overflow-add-n
-overflow-add-n c =
+pub overflow_add-n : goal.overflow_add-n
+overflow_add-n c =
     let es = c.args.es.now in
     let t = c.args.task in
     let i = c.loop-e.e-index in

@@ -8,8 +8,8 @@ use Rattle.packed.specs.Rows.{row}
 use Rattle.packed.proofs.PlaceFacts.{marking_at, marking_none, has_place}
 use Rattle.packed.proofs.packed_roll.Packed.mark.Goals as goal
 
-pub invariant-of-self : goal.invariant-of-self
-invariant-of-self c =
+pub invariant_of-self : goal.invariant_of-self
+invariant_of-self c =
     let es = row c.args.self.now.entries in
     let t = c.args.task in
     let b = c.args.asleep in
@@ -23,7 +23,7 @@ returns-then-i-entries c =
     let t = c.args.task in
     let b = c.args.asleep in
     let p : c.place-i.result ≡ place_of t es = cc in
-    let n : length c.as-slice-entries.result.now ≡ length es = ap length c.as-slice-entries.ensures in
+    let n : length c.as_slice-entries.result.now ≡ length es = ap length c.as_slice-entries.ensures in
     let h = has_place t es in
     let k = lt-ltb (place_of t es) (length es) (omega arith) in
     record {
@@ -36,7 +36,7 @@ returns-else-i-entries c =
     let es = row c.args.self.now.entries in
     let t = c.args.task in
     let p : c.place-i.result ≡ place_of t es = cc in
-    let n : length c.as-slice-entries.result.now ≡ length es = ap length c.as-slice-entries.ensures in
+    let n : length c.as_slice-entries.result.now ≡ length es = ap length c.as_slice-entries.ensures in
     let past : length es ≤ place_of t es = omega arith in
     record {
       answer = sym (has_place t es ∙ le-ltb (place_of t es) (length es) past);

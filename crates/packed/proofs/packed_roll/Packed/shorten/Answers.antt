@@ -10,8 +10,8 @@ use Rattle.packed.specs.Rows.{row}
 use Rattle.packed.proofs.PlaceFacts.{ended_at, has_place}
 use Rattle.packed.proofs.packed_roll.Packed.shorten.Goals as goal
 
-pub invariant-of-self : goal.invariant-of-self
-invariant-of-self c =
+pub invariant_of-self : goal.invariant_of-self
+invariant_of-self c =
     let es = row c.args.self.now.entries in
     let t = c.args.task in
     let p : c.place-i.result ≡ place_of t es = cc in
@@ -23,7 +23,7 @@ returns-then-i-entries c =
     let es = row c.args.self.now.entries in
     let t = c.args.task in
     let p : c.place-i.result ≡ place_of t es = cc in
-    let n : length c.as-slice-entries.result.now ≡ length es = ap length c.as-slice-entries.ensures in
+    let n : length c.as_slice-entries.result.now ≡ length es = ap length c.as_slice-entries.ensures in
     record {
       answer = sym (has_place t es ∙ lt-ltb (place_of t es) (length es) (omega arith));
       after = c.remove.ensures ∙ ap (remove es) p ∙ ended_at t es;
@@ -34,7 +34,7 @@ returns-else-i-entries c =
     let es = row c.args.self.now.entries in
     let t = c.args.task in
     let p : c.place-i.result ≡ place_of t es = cc in
-    let n : length c.as-slice-entries.result.now ≡ length es = ap length c.as-slice-entries.ensures in
+    let n : length c.as_slice-entries.result.now ≡ length es = ap length c.as_slice-entries.ensures in
     let k = has_place t es ∙ le-ltb (place_of t es) (length es) (omega arith) in
     let z = ltb-false 0 (count_of t es) k in
     record {

@@ -5,8 +5,8 @@ use Rattle.roll.specs.declared.entry.Entry.{Entry}
 use Rattle.packed.proofs.RowFacts.{take_set_in}
 use Rattle.packed.proofs.row.Row.mark.Goals as goal
 
-pub offset-bounds-self-i : goal.offset-bounds-self-i
-offset-bounds-self-i c = let h = length-take c.args.self.now.len c.args.self.now.items in let f = c.args.self.now.fits in omega arith
+pub offset_bounds-self-i : goal.offset_bounds-self-i
+offset_bounds-self-i c = let h = length-take c.args.self.now.len c.args.self.now.items in let f = c.args.self.now.fits in omega arith
 
 pub returns : goal.returns
 returns c =

@@ -7,9 +7,9 @@ use Rattle.packed.proofs.packed_roll.methods.PackedRoll.add.Goals as goal
 
 pub push-requires : goal.push-requires
 push-requires c =
-    sound_room c.args.task (row c.args.self.now.entries) c.args.self.now.sound (sym c.if-not-is-task.ensures) (omega arith)
+    sound_room c.args.task (row c.args.self.now.entries) c.args.self.now.sound (sym c.if-not-is_task.ensures) (omega arith)
 
-pub invariant-of-self : goal.invariant-of-self
-invariant-of-self c =
-    let s = sound_added c.args.task c.args.level (row c.args.self.now.entries) c.args.self.now.sound (sym c.if-not-is-task.ensures) (sym c.if-not-is-level.ensures) (omega arith) in
+pub invariant_of-self : goal.invariant_of-self
+invariant_of-self c =
+    let s = sound_added c.args.task c.args.level (row c.args.self.now.entries) c.args.self.now.sound (sym c.if-not-is_task.ensures) (sym c.if-not-is_level.ensures) (omega arith) in
     (subst (λ (x : List Entry). SoundList x) (sym c.push.ensures) s, tt)
