@@ -15,7 +15,7 @@ invariant_of-self c =
     let b = c.args.asleep in
     let p : c.place-i.result ≡ place_of t es = cc in
     let m : row c.mark.new.self ≡ marking b t es = c.mark.ensures ∙ ap (λ (k : ℕ). set es k (marked b (get_or es k (awake 0 0)))) p ∙ marking_at b t es in
-    (subst (λ (x : List Entry). SoundList x) (sym m) (sound_marking b t es c.args.self.now.sound), tt)
+    record { sound = subst (λ (x : List Entry). SoundList x) (sym m) (sound_marking b t es c.args.self.now.sound) }
 
 pub returns-then-i-entries : goal.returns-then-i-entries
 returns-then-i-entries c =

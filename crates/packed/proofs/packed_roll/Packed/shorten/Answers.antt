@@ -16,7 +16,7 @@ invariant_of-self c =
     let t = c.args.task in
     let p : c.place-i.result ≡ place_of t es = cc in
     let m : row c.remove.new.self ≡ ended t es = c.remove.ensures ∙ ap (remove es) p ∙ ended_at t es in
-    (subst (λ (x : List Entry). SoundList x) (sym m) (sound_ended t es c.args.self.now.sound), tt)
+    record { sound = subst (λ (x : List Entry). SoundList x) (sym m) (sound_ended t es c.args.self.now.sound) }
 
 pub returns-then-i-entries : goal.returns-then-i-entries
 returns-then-i-entries c =

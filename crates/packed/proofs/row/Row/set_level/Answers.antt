@@ -10,7 +10,7 @@ invariant_of-self c =
     let w = c.args.self.now.whole in
     let fits = c.args.self.now.fits in
     let m = front_mapped (relevel c.args.task c.args.level) n (n - 0) xs c.set_level.new.es (omega arith) (omega arith) c.set_level.ensures in
-    (m.0 ∙ w, (fits, tt))
+    record { whole = m.0 ∙ w; fits = fits }
 
 pub returns : goal.returns
 returns c =

@@ -12,4 +12,4 @@ push-requires c =
 pub invariant_of-self : goal.invariant_of-self
 invariant_of-self c =
     let s = sound_added c.args.task c.args.level (row c.args.self.now.entries) c.args.self.now.sound (sym c.if-not-is_task.ensures) (sym c.if-not-is_level.ensures) (omega arith) in
-    (subst (λ (x : List Entry). SoundList x) (sym c.push.ensures) s, tt)
+    record { sound = subst (λ (x : List Entry). SoundList x) (sym c.push.ensures) s }
