@@ -1,5 +1,5 @@
 -- What every call does: what comes back, by the table of refusals or by the effect of an obeyed call.
-use Rattle.std.specs.Prelude.{◌≡◌, ℕ, Bool, cond, List, [], ◌∷◌, length, None}
+use Rattle.std.specs.Prelude.{◌≡◌, ℕ, cond, List, [], ◌∷◌, length, None}
 use Rattle.sheet.specs.declared.event.Event.{Event}
 use Rattle.sheet.specs.Sheets.{written}
 use Rattle.rules.specs.declared.answer.Code.TheVariants.{Done}

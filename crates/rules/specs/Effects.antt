@@ -1,7 +1,7 @@
 -- What a call does once it is obeyed: the new state and the events, before `runs` is told.
-use Rattle.std.specs.Prelude.{ℕ, zero, suc, ◌*◌, Bool, true, false, cond, not, ◌&&◌, List, [], ◌∷◌, ◌++◌, Some, None, Option, ◌==◌}
+use Rattle.std.specs.Prelude.{ℕ, zero, suc, ◌*◌, Bool, true, false, cond, List, [], ◌∷◌, ◌++◌, Some, None, Option, ◌==◌}
 use Rattle.sheet.specs.declared.event.Event.{Event}
-use Rattle.sheet.specs.declared.event.Kind.TheVariants.{Accepted, Ended, Runs}
+use Rattle.sheet.specs.declared.event.Kind.TheVariants.{Accepted, Ended}
 use Rattle.sheet.specs.Events.{event}
 use Rattle.roll.specs.Tables.{put}
 use Rattle.roll.specs.Entries.{levelled}
@@ -14,7 +14,7 @@ use Rattle.rules.specs.declared.call.Macro.{Macro}
 use Rattle.rules.specs.declared.call.Macro.TheVariants.{Rleas, Queue, Abort, Delay as DelayFor, Timer, Ctime, Chap, Sfact, Gfact, Susp, Rsum, Wake, Cwake, Stime, Exit}
 use Rattle.rules.specs.State.{Setup, Tasks, State}
 use Rattle.rules.specs.Starts.{accepted_with, factored, slept, finished, stripped, cut_events}
-use Rattle.rules.specs.Tables.{timers_without, wakes_without, ticked, tick_events}
+use Rattle.rules.specs.Tables.{timers_without, wakes_without}
 
 -- `over` says that the start which had the processor has finished; `factor` is what gfact answers
 pub record Effect : Type 0 where

@@ -1,5 +1,5 @@
 -- The table of refusals: for each call its causes, in the order in which they are looked at, and what comes back.
-use Rattle.std.specs.Prelude.{ℕ, Bool, true, false, cond, not, ◌&&◌, List, [], ◌∷◌, ◌++◌, ◌==◌, nat_lt}
+use Rattle.std.specs.Prelude.{ℕ, Bool, cond, not, ◌&&◌, List, [], ◌∷◌, ◌++◌, ◌==◌, nat_lt}
 use Rattle.sheet.specs.declared.event.Event.{Event}
 use Rattle.sheet.specs.declared.event.Kind.TheVariants.{Missed, Runs}
 use Rattle.sheet.specs.Events.{event}
@@ -9,7 +9,7 @@ use Rattle.rules.specs.declared.call.Call.{Call}
 use Rattle.rules.specs.declared.call.Call.TheVariants.{Macro as Issues, Tick, Coil}
 use Rattle.rules.specs.declared.call.Macro.{Macro}
 use Rattle.rules.specs.declared.call.Macro.TheVariants.{Rleas, Queue, Abort, Delay, Timer, Ctime, Chap, Sfact, Gfact, Susp, Rsum, Wake, Cwake, Stime, Exit}
-use Rattle.rules.specs.State.{Setup, Tasks, State, running}
+use Rattle.rules.specs.State.{Setup, State, running}
 use Rattle.rules.specs.Starts.{room_for}
 use Rattle.rules.specs.Tables.{timers_full, wakes_full, no_timer, no_wake}
 use Rattle.rules.specs.Fields.{least_sheet, task_field, in_range}

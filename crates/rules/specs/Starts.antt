@@ -9,7 +9,7 @@ use Rattle.roll.specs.Entries.{awake, ended, marking, cleared}
 use Rattle.roll.specs.Model.{with, count_in}
 use Rattle.table.specs.declared.firing.Firing.{Firing}
 use Rattle.table.specs.declared.firing.Firing.TheVariants.{Start, Rouse}
-use Rattle.rules.specs.State.{Setup, Tasks}
+use Rattle.rules.specs.State.{Tasks}
 
 -- the same tasks with other entries on the roll
 abbrev pub rolled : Tasks → List Entry → Tasks

@@ -1,11 +1,11 @@
 -- Timers, delays, wakes and the clock.
-use Rattle.std.specs.Prelude.{ℕ, Bool, not, ◌&&◌, List, [], ◌∷◌, ◌++◌, length, Some, None, filter, Option, ◌==◌, nat_le}
+use Rattle.std.specs.Prelude.{ℕ, Bool, not, List, [], ◌++◌, length, Some, None, filter, Option, ◌==◌, nat_le}
 use Rattle.sheet.specs.declared.event.Event.{Event}
 use Rattle.table.specs.declared.firing.Firing.{Firing}
 use Rattle.table.specs.declared.timer.TimerPlace.{TimerPlace}
 use Rattle.table.specs.declared.wake.WakePlace.{WakePlace}
 use Rattle.table.specs.declared.selection.Selection.{Selection}
-use Rattle.table.specs.declared.selection.Selection.TheVariants.{Set, Delay}
+use Rattle.table.specs.declared.selection.Selection.TheVariants.{Set}
 use Rattle.table.specs.Rows.{lefts, firings, all_fired, all_told}
 use Rattle.table.specs.Timers.{timer_after, timer_fires, timer_selected}
 use Rattle.table.specs.Wakes.{wake_after, wake_fires, wake_selected}
