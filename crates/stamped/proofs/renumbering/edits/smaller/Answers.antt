@@ -5,8 +5,8 @@ use Rattle.stamped.specs.Numbers.{below}
 use Rattle.stamped.proofs.Numbers.{below_length}
 use Rattle.stamped.proofs.renumbering.edits.smaller.Goals as goal
 
-pub overflow-add-n : goal.overflow-add-n
-overflow-add-n c =
+pub overflow_add-n : goal.overflow_add-n
+overflow_add-n c =
     let xs = c.args.stamps.now in
     let s = c.args.stamp in
     let i = c.loop-s.s-index in

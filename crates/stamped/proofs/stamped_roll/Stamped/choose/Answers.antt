@@ -4,7 +4,7 @@ use Rattle.stamped.specs.Candidates.{owner_of, Least}
 use Rattle.stamped.specs.Tables.{orderly_of}
 use Rattle.stamped.proofs.Chosen.{least_skip, least_more, chosen_first}
 use Rattle.stamped.proofs.stamped_roll.Stamped.choose.Goals as goal
-use Rattle.stamped.proofs.stamped_roll.Stamped.choose.Goals.{in-Some, in-default}
+use Rattle.stamped.proofs.stamped_roll.Stamped.choose.Goals.{in-Some, in_default}
 
 pub loop-t-preserved : goal.loop-t-preserved
 loop-t-preserved c =
@@ -14,7 +14,7 @@ loop-t-preserved c =
       | in-Some w ↦
           let p : Candidate = record { task = i; start = w.in-Some.start } in
           subst (λ (o : Option Candidate). Least xs (i + 1) o) (sym (w.best-is ∙ w.or-best.ensures)) (least_more xs i c.loop-t.best p c.loop-t.invariant refl (sym w.in-Some.ensures))
-      | in-default w ↦ subst (λ (o : Option Candidate). Least xs (i + 1) o) (sym w.best-is) (least_skip xs i c.loop-t.best c.loop-t.invariant (sym w.in-default.ensures))
+      | in_default w ↦ subst (λ (o : Option Candidate). Least xs (i + 1) o) (sym w.best-is) (least_skip xs i c.loop-t.best c.loop-t.invariant (sym w.in_default.ensures))
     ]
 
 pub returns-in-Some-best : goal.returns-in-Some-best

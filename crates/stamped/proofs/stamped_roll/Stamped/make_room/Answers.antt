@@ -3,8 +3,8 @@ use Rattle.std.proofs.lemmas.Bool.{cond-false, le-ltb}
 use Rattle.stamped.specs.Slots.{listed}
 use Rattle.stamped.proofs.stamped_roll.Stamped.make_room.Goals as goal
 
-pub returns-then-used-up : goal.returns-then-used-up
-returns-then-used-up c =
+pub returns-then-used_up : goal.returns-then-used_up
+returns-then-used_up c =
     let s = c.args.self.now in
     let few = c.renumber.ensures.small in
     record {

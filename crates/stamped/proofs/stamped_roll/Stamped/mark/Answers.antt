@@ -25,8 +25,8 @@ bounds-self-t c = has_slot c.args.self.now c.args.task (omega arith)
 pub bounds-self-t-2 : goal.bounds-self-t-2
 bounds-self-t-2 c = has_slot c.args.self.now c.args.task (omega arith)
 
-pub invariant-of-self : goal.invariant-of-self
-invariant-of-self c =
+pub invariant_of-self : goal.invariant_of-self
+invariant_of-self c =
     let s = c.args.self.now in
     let t = c.args.task in
     let lt = has_slot s t (omega arith) in

@@ -7,8 +7,8 @@ use Rattle.stamped.specs.Counts.{Orderly}
 use Rattle.stamped.specs.Writes.{levelled_write}
 use Rattle.stamped.proofs.stamped_roll.Stamped.relevel.Goals as goal
 
-pub invariant-of-self : goal.invariant-of-self
-invariant-of-self c =
+pub invariant_of-self : goal.invariant_of-self
+invariant_of-self c =
     let xs = c.args.self.now.slots in
     let t = c.args.task in
     let n = c.args.self.now.next in

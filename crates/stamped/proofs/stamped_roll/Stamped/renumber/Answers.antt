@@ -8,8 +8,8 @@ use Rattle.stamped.proofs.Renumbered.{renumbered_orderly, renumbered_listed, ren
 use Rattle.stamped.specs.Tables.{orderly_of}
 use Rattle.stamped.proofs.stamped_roll.Stamped.renumber.Goals as goal
 
-pub invariant-of-self : goal.invariant-of-self
-invariant-of-self c =
+pub invariant_of-self : goal.invariant_of-self
+invariant_of-self c =
     let xs = c.args.self.now.slots in
     let n = c.args.self.now.next in
     let len = c.args.self.now.whole in
