@@ -3,7 +3,7 @@ use Rattle.std.proofs.lemmas.List.{take_more, take_all, get_or_default, drop_all
 use Rattle.std.proofs.lemmas.List.Edits.{map_over_more}
 use Rattle.stamped.specs.declared.slot.Slot.{Slot}
 use Rattle.stamped.specs.declared.slot.Slot.TheVariants.{Empty}
-use Rattle.stamped.specs.Numbers.{below, stamps_in, stamps_of, renumbered_slot, renumbered}
+use Rattle.stamped.specs.Numbers.{below, stamps_in, stamps_of, renumbered_slot}
 use Rattle.stamped.specs.Noted.{noted}
 use Rattle.stamped.proofs.Numbers.{stamps_push, stamps_few}
 use Rattle.stamped.proofs.renumbering.slots.renumber.Goals as goal

@@ -32,7 +32,7 @@ invariant_of-self c =
     let lt = has_slot s t (omega arith) in
     let w = marked_write c.args.asleep s.next t s.slots (omega (arith, s.whole)) (orderly_of s) in
     let r = subst (λ (y : Slot). Orderly (set s.slots t y) s.next) (sym c.marked.ensures) w.1 in
-    (length-set s.slots t c.marked.result ∙ s.whole, (s.room, (r.apart, (r.good, tt))))
+    record { whole = length-set s.slots t c.marked.result ∙ s.whole; room = s.room; apart = r.apart; good = r.good }
 
 pub returns : goal.returns
 returns c =

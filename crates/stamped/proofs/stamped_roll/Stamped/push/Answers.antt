@@ -19,7 +19,7 @@ invariant_of-self c =
     let x : Start = record { stamp = n; level = c.args.level; asleep = false } in
     let w = push_write n t x xs (omega arith) (omega arith) refl (omega arith) s c.requires.few in
     let r = subst (λ (y : Slot). Orderly (set xs t y) (n + 1)) (sym c.pushed.ensures) w.1 in
-    (length-set xs t c.pushed.result ∙ len, (omega arith, (r.apart, (r.good, tt))))
+    record { whole = length-set xs t c.pushed.result ∙ len; room = omega arith; apart = r.apart; good = r.good }
 
 pub returns : goal.returns
 returns c =

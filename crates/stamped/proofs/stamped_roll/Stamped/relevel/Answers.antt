@@ -17,7 +17,7 @@ invariant_of-self c =
     let s = orderly_of c.args.self.now in
     let w = levelled_write n t c.args.level xs (omega arith) (omega arith) s in
     let r = subst (λ (y : Slot). Orderly (set xs t y) n) (sym c.levelled.ensures) w.1 in
-    (length-set xs t c.levelled.result ∙ len, (c.args.self.now.room, (r.apart, (r.good, tt))))
+    record { whole = length-set xs t c.levelled.result ∙ len; room = c.args.self.now.room; apart = r.apart; good = r.good }
 
 pub returns : goal.returns
 returns c =

@@ -18,7 +18,7 @@ invariant_of-self c =
     let q = c.renumber-count.ensures.count in
     let few = renumbered_few xs n o len in
     let r = subst (λ (l : List Slot). Orderly l c.renumber-count.result) (sym p) (subst (λ (k : ℕ). Orderly (renumbered xs) k) (sym q) (renumbered_orderly xs n o)) in
-    (ap length p ∙ simp length-map len, (omega arith, (r.apart, (r.good, tt))))
+    record { whole = ap length p ∙ simp length-map len; room = omega arith; apart = r.apart; good = r.good }
 
 pub returns : goal.returns
 returns c =

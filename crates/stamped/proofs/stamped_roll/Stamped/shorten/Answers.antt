@@ -33,7 +33,7 @@ invariant_of-self c =
     let lt = has_slot s t (omega arith) in
     let w = ended_write s.next t s.slots (omega (arith, s.whole)) (orderly_of s) in
     let r = subst (λ (y : Slot). Orderly (set s.slots t y) s.next) (sym c.ended.ensures) w.1 in
-    (length-set s.slots t c.ended.result ∙ s.whole, (s.room, (r.apart, (r.good, tt))))
+    record { whole = length-set s.slots t c.ended.result ∙ s.whole; room = s.room; apart = r.apart; good = r.good }
 
 pub returns : goal.returns
 returns c =
