@@ -10,9 +10,9 @@ use roll::Roll;
 // Which task has the processor where some are held: while the roll answers a held
 // task, that one is put to sleep and the roll asked again. In the end exactly these are roused.
 pub(crate) fn first<R: Roll>(roll: &mut R, held: &Holds) -> Option<u8>
-    requires { lever ≡ false }
-    ensures answer { result ≡ first_of (members held.now) (meaning roll.old).entries }
-    ensures after { meaning roll.new ≡ meaning roll.old }
+    requires { R.Roll.lever ≡ false }
+    ensures answer { result ≡ first_of (members held.now) (R.Roll.meaning roll.old).entries }
+    ensures after { R.Roll.meaning roll.new ≡ R.Roll.meaning roll.old }
 {
     // Each turn puts one more entry to sleep, and a roll has at most 254.
     let mut slept = [0u8; 254];
@@ -34,7 +34,7 @@ pub(crate) fn first<R: Roll>(roll: &mut R, held: &Holds) -> Option<u8>
 // Rouses the first `count` of the tasks, from the last to the first.
 fn rouse<R: Roll>(roll: &mut R, slept: &[u8], count: usize)
     requires { count ≤ length slept.now }
-    ensures { meaning roll.new ≡ roused (take count slept.now) (meaning roll.old) }
+    ensures { R.Roll.meaning roll.new ≡ roused (take count slept.now) (R.Roll.meaning roll.old) }
 {
     let mut n = count;
     while n > 0 {

@@ -8,7 +8,7 @@ use Rattle.lever.specs.Meaning.{members}
 use Rattle.lever.specs.Searches.{roused}
 use Rattle.lever.proofs.Turns.{turn_none, turn_one, turn_some, turn_same, slept_more}
 use Rattle.lever.proofs.search.first.Goals as goal
-use Rattle.lever.proofs.search.first.Goals.{in-Some+then-not-has, in-default}
+use Rattle.lever.proofs.search.first.Goals.{in-Some+then-not-has, in_default}
 
 -- at most 254 entries are awake
 few_awake : (m : Model) → Sound m → awakes m.entries ≤ 254
@@ -23,8 +23,8 @@ bounds-slept-n g c =
     let i = c.loop-found.invariant.2 in
     omega arith
 
-pub overflow-add-n : goal.overflow-add-n
-overflow-add-n g c =
+pub overflow_add-n : goal.overflow_add-n
+overflow_add-n g c =
     let e = c.first-found.new.self in
     let k = few_awake (g.R.Roll.meaning e) (g.met.R.Roll.sound e) in
     let i = c.loop-found.invariant.2 in
@@ -83,7 +83,7 @@ returns g c =
     let same : first_of h m.entries ≡ first_of h (g.R.Roll.meaning c.args.roll.now).entries = inv.1 ∙ ap (λ (x : Model). first_of h x.entries) back in
     let found : c.match-found.found ≡ first_of h m.entries = (elim c.match-found.branch [
       | in-Some+then-not-has w ↦ w.found-is ∙ turn_some m p w.in-Some.task (sym w.in-Some.is ∙ inv.3) h (sym w.if-not-has.ensures)
-      | in-default w ↦ w.found-is ∙ w.in-default.is ∙ turn_none m p h (sym w.in-default.is ∙ inv.3)
+      | in_default w ↦ w.found-is ∙ w.in_default.is ∙ turn_none m p h (sym w.in_default.is ∙ inv.3)
     ]) in
     record {
       answer = found ∙ same;
