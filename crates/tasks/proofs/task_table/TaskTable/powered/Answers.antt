@@ -5,8 +5,8 @@ use Rattle.roll.proofs.Tables.{table_put}
 use Rattle.tasks.proofs.Cuts.{same_tasks, none_table, nested_none, blank_rows, first_added, first_released}
 use Rattle.tasks.proofs.task_table.TaskTable.powered.Goals as goal
 
-pub invariant-of-result : goal.invariant-of-result
-invariant-of-result g c = (c.requires.ranked, ((refl, c.requires.sized, refl), (blank_rows 128 17, tt)))
+pub invariant_of-result : goal.invariant_of-result
+invariant_of-result g c = (c.requires.ranked, ((refl, c.requires.sized, refl), (blank_rows 128 17, tt)))
 
 pub returns : goal.returns
 returns g c =
@@ -14,4 +14,4 @@ returns g c =
     (table_put (replicate 128 false) 1 true false (lit< tt) ∙ ap (λ (f : ℕ → Bool). put f 1 true) (none_table 128) ∙ first_released)
     refl
     (nested_none 128 17)
-    (c.add.ensures.after ∙ ap (after_add 1 _) c.clear-all.ensures ∙ first_added _ (c.requires.ranked 1))
+    (c.add.ensures.after ∙ ap (after_add 1 _) c.clear_all.ensures ∙ first_added _ (c.requires.ranked 1))

@@ -9,8 +9,8 @@ use Rattle.tasks.proofs.Nested.{nested, nested_put, rows_kept}
 use Rattle.tasks.proofs.Cuts.{same_tasks, none_table, unheld, ranked_set}
 use Rattle.tasks.proofs.task_table.TaskTable.strip.Goals as goal
 
-pub invariant-of-self : goal.invariant-of-self
-invariant-of-self g c =
+pub invariant_of-self : goal.invariant_of-self
+invariant_of-self g c =
     let s = c.args.self.now in
     let t = c.args.task in
     let row = replicate 17 false in

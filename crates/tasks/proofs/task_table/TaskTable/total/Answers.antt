@@ -14,8 +14,8 @@ loop-task-preserved g c =
     let i = c.loop-task.invariant in
     (omega (arith, i.0, k, e), omega (arith, i.1, s, e))
 
-pub overflow-add-total : goal.overflow-add-total
-overflow-add-total g c =
+pub overflow_add-total : goal.overflow_add-total
+overflow_add-total g c =
     let s = (g.met.R.Roll.sound c.args.self.now.roll).0.1 c.loop-task.task in
     omega (arith, s, c.count-total.ensures, c.loop-task.invariant.1)
 
