@@ -1,12 +1,12 @@
 -- What a cut makes of the table.
-use Rattle.std.proofs.Common.{◌≡◌, ℕ, ◌<◌, ◌≤◌, Bool, true, false, cond, ◌&&◌, eqb, ◌⊎◌, List, [], ◌∷◌, length, get_or, set, replicate, sym, refl, ap, ◌∙◌, inl, inr, arith}
+use Rattle.std.proofs.Common.{◌≡◌, ℕ, ◌<◌, ◌≤◌, Bool, true, false, cond, eqb, ◌⊎◌, List, [], ◌∷◌, length, get_or, set, replicate, sym, refl, ap, ◌∙◌, inl, inr, arith}
 use mathlib.Core.Path.{fun_ext}
 use Rattle.std.proofs.lemmas.Bool.{cases_eq, cases_Bool, cases_lt, lt-ltb}
 use Rattle.std.proofs.lemmas.List.{get_or-set_same, get_or-set_other, get_or-replicate, length-replicate, get_or_past, set_past}
 use Rattle.roll.specs.Ranges.{task?}
 use Rattle.roll.specs.Tables.{put, none}
 use Rattle.roll.specs.Entries.{awake}
-use Rattle.roll.specs.Model.{Model, empty, after_add, may_unhold, after_unhold}
+use Rattle.roll.specs.Model.{Model, empty, after_add, after_unhold}
 use Rattle.roll.proofs.Tables.{put_kept}
 use Rattle.rules.specs.State.{Tasks}
 use Rattle.tasks.proofs.Nested.{nested}

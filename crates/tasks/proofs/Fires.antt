@@ -1,7 +1,6 @@
 -- A firing that is accepted.
-use Rattle.std.proofs.Common.{◌≡◌, ℕ, true, cond, ◌&&◌, sym, refl, ap, ◌∙◌}
+use Rattle.std.proofs.Common.{◌≡◌, ℕ, true, sym, ap, ◌∙◌}
 use Rattle.std.proofs.lemmas.Bool.{and_from, cond-true}
-use Rattle.sheet.specs.declared.event.Event.{Event}
 use Rattle.sheet.specs.declared.event.Kind.TheVariants.{Accepted, Missed}
 use Rattle.sheet.specs.Events.{event}
 use Rattle.table.specs.declared.firing.Firing.{Firing}

@@ -1,5 +1,5 @@
 -- What a table of tasks means, whatever roll it holds.
-use Rattle.std.specs.Prelude.{ℕ, ◌≤◌, Bool, false, List, [], Some, None, Option, slice_index, slice_index_or}
+use Rattle.std.specs.Prelude.{ℕ, ◌≤◌, false, [], Some, None, Option, slice_index, slice_index_or}
 use Rattle.roll.specs.Model.{Model}
 use Rattle.rules.specs.State.{Tasks}
 use Rattle.tasks.specs.declared.task_table.TaskTable.{TaskTable}

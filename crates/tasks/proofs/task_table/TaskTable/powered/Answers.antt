@@ -1,12 +1,12 @@
-use Rattle.std.proofs.Common.{◌≡◌, ℕ, Bool, true, false, replicate, sym, refl, ap, ◌∙◌, arith, lit<}
+use Rattle.std.proofs.Common.{ℕ, Bool, true, false, replicate, refl, ap, ◌∙◌, lit<}
 use Rattle.roll.specs.Tables.{put}
-use Rattle.roll.specs.Model.{Model, empty, after_add}
+use Rattle.roll.specs.Model.{after_add}
 use Rattle.roll.proofs.Tables.{table_put}
 use Rattle.tasks.proofs.Cuts.{same_tasks, none_table, nested_none, blank_rows, first_added, first_released}
 use Rattle.tasks.proofs.task_table.TaskTable.powered.Goals as goal
 
 pub invariant_of-result : goal.invariant_of-result
-invariant_of-result g c = (c.requires.ranked, ((refl, c.requires.sized, refl), (blank_rows 128 17, tt)))
+invariant_of-result g c = record { ranked = c.requires.ranked; sized = (refl, c.requires.sized, refl); seventeen = blank_rows 128 17 }
 
 pub returns : goal.returns
 returns g c =

@@ -1,4 +1,4 @@
-use Rattle.std.proofs.Common.{◌≡◌, ℕ, Option, sym, ap, ◌∙◌, arith}
+use Rattle.std.proofs.Common.{sym, ap, arith}
 use Rattle.rules.specs.State.{Tasks, numbered}
 use Rattle.roll.specs.Model.{Model}
 use Rattle.roll.proofs.Firsts.{first_below}

@@ -1,4 +1,4 @@
-use Rattle.std.proofs.Common.{◌≡◌, ℕ, ◌<◌, Bool, true, [], length, get_or, set, ap, ◌∙◌, arith}
+use Rattle.std.proofs.Common.{ℕ, ◌<◌, Bool, true, [], length, get_or, ap, arith}
 use Rattle.rules.specs.State.{Tasks}
 use Rattle.tasks.specs.Views.{view}
 use Rattle.tasks.proofs.Nested.{mark_put}

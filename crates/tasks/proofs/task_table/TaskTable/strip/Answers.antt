@@ -1,9 +1,9 @@
-use Rattle.std.proofs.Common.{◌≡◌, ℕ, ◌<◌, Bool, true, false, ltb, [], length, get_or, set, replicate, refl, ap, ◌∙◌, arith}
+use Rattle.std.proofs.Common.{◌≡◌, ℕ, ◌<◌, Bool, true, false, ltb, length, replicate, refl, ap, ◌∙◌, arith}
 use Rattle.std.proofs.lemmas.List.{length-set}
 use Rattle.std.proofs.lemmas.Bool.{lt-ltb, and_from}
 use Rattle.roll.specs.Ranges.{task?}
 use Rattle.roll.specs.Tables.{put}
-use Rattle.roll.specs.Model.{Model, after_clear, after_unhold}
+use Rattle.roll.specs.Model.{Model, after_clear}
 use Rattle.roll.proofs.Tables.{table_put}
 use Rattle.tasks.proofs.Nested.{nested, nested_put, rows_kept}
 use Rattle.tasks.proofs.Cuts.{same_tasks, none_table, unheld, ranked_set}
@@ -16,13 +16,7 @@ invariant_of-self g c =
     let row = replicate 17 false in
     let sizes = s.sized in
     let lt : t < length s.factors = omega (arith, sizes.2) in
-    let rows = rows_kept s.factors t 17 row lt refl (λ u lu. s.seventeen u (omega (arith, sizes.2))) in (
-      ranked_set s.levels t c.args.written c.requires.2 s.ranked,
-      (
-        (length-set s.released t false ∙ sizes.0, length-set s.levels t c.args.written ∙ sizes.1, length-set s.factors t row ∙ sizes.2),
-        ((λ u lu. rows u (omega (arith, sizes.2))), tt),
-      ),
-    )
+    let rows = rows_kept s.factors t 17 row lt refl (λ u lu. s.seventeen u (omega (arith, sizes.2))) in record { ranked = ranked_set s.levels t c.args.written c.requires.2 s.ranked; sized = (length-set s.released t false ∙ sizes.0, length-set s.levels t c.args.written ∙ sizes.1, length-set s.factors t row ∙ sizes.2); seventeen = (λ u lu. rows u (omega (arith, sizes.2))) }
 
 pub returns : goal.returns
 returns g c =

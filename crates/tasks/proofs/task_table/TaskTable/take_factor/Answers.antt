@@ -1,8 +1,7 @@
-use Rattle.std.proofs.Common.{◌≡◌, ℕ, ◌<◌, Bool, false, [], length, get_or, set, sym, refl, ap, ◌∙◌, arith}
-use Rattle.std.proofs.lemmas.List.{length-set}
+use Rattle.std.proofs.Common.{ℕ, ◌<◌, Bool, false, [], length, get_or, ap, arith}
 use Rattle.rules.specs.State.{Tasks}
 use Rattle.tasks.specs.Views.{view}
-use Rattle.tasks.proofs.Nested.{mark_put, rows_kept}
+use Rattle.tasks.proofs.Nested.{mark_put}
 use Rattle.tasks.proofs.task_table.TaskTable.take_factor.Goals as goal
 
 pub returns : goal.returns

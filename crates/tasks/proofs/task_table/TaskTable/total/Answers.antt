@@ -1,4 +1,4 @@
-use Rattle.std.proofs.Common.{◌≡◌, ◌+◌, ◌*◌, ◌≤◌, length, sym, ap, ◌∙◌, arith}
+use Rattle.std.proofs.Common.{◌≡◌, sym, ap, ◌∙◌, arith}
 use Rattle.tasks.proofs.Totals.{before, before_first, before_more, before_all}
 use Rattle.tasks.proofs.task_table.TaskTable.total.Goals as goal
 

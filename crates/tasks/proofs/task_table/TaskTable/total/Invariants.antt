@@ -1,5 +1,4 @@
 use Rattle.std.proofs.Common.{◌≡◌, ◌+◌, ◌*◌, ◌≤◌}
-use Rattle.tasks.specs.Views.{view}
 use Rattle.tasks.proofs.Totals.{before}
 use Rattle.tasks.proofs.task_table.TaskTable.total.Given as goal
 
