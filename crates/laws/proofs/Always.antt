@@ -1,17 +1,16 @@
 -- The laws hold of every history, and each call carries them on.
-use Rattle.std.proofs.Common.{◌≡◌, ℕ, List, [], ◌∷◌, ◌++◌, length, take, Option, sym, refl, ap, ◌∙◌, subst, ap₂}
+use Rattle.std.proofs.Common.{◌≡◌, ℕ, List, [], ◌∷◌, ◌++◌, take, Option, sym, refl, ap, ◌∙◌, subst, ap₂}
 use Rattle.roll.specs.Model.{first_in}
 use Rattle.std.proofs.lemmas.List.{take_at}
 use Rattle.sheet.specs.declared.event.Event.{Event}
 use Rattle.rules.specs.declared.answer.Answer.{Answer}
 use Rattle.rules.specs.declared.call.Call.{Call}
 use Rattle.rules.specs.State.{Setup, State, Station}
-use Rattle.rules.specs.Calls.{called, started, Performed}
+use Rattle.rules.specs.Calls.{started, Performed}
 use Rattle.laws.specs.Histories.{Seen, seen, History, History.powered, History.then, Leads, Reached, Reached.on, Reached.by}
-use Rattle.laws.specs.Laws.{Full, Laws, Numbered, Always}
+use Rattle.laws.specs.Laws.{Full, Numbered, Always}
 use Rattle.laws.specs.Runs.{Lawful, Named, Ran}
-use Rattle.laws.proofs.Steps.{saw}
-use Rattle.laws.proofs.Tied.{Tied, tied, seen_is}
+use Rattle.laws.proofs.Tied.{tied, seen_is}
 use Rattle.laws.proofs.Choice.{choice, first_named}
 use Rattle.laws.proofs.Full.{full_next}
 

@@ -1,5 +1,5 @@
 -- Every call, turned down or obeyed.
-use Rattle.std.proofs.Common.{◌≡◌, ℕ, ◌≤◌, Bool, true, false, cond, not, ◌&&◌, ◌||◌, eqb, ltb, leb, List, [], ◌∷◌, ◌++◌, Some, None, Option, refl, arith}
+use Rattle.std.proofs.Common.{◌≡◌, ℕ, Bool, true, false, not, ◌&&◌, ◌||◌, eqb, ltb, leb, List, [], ◌∷◌, Some, None, Option, refl, arith}
 use Rattle.std.proofs.lemmas.Bool.{cond_both, and_parts, eqb-false, leb-true, lt-ltb, not-false}
 use Rattle.sheet.specs.declared.event.Event.{Event}
 use Rattle.sheet.specs.declared.event.Kind.TheVariants.{Missed}
@@ -13,7 +13,6 @@ use Rattle.rules.specs.declared.call.Macro.TheVariants.{Rleas, Queue, Abort, Del
 use Rattle.rules.specs.Codes.{number_of}
 use Rattle.rules.specs.State.{Setup, State, running as first}
 use Rattle.rules.specs.Starts.{room_for}
-use Rattle.rules.specs.Tables.{timers_full}
 use Rattle.rules.specs.Fields.{task_field, factor_field, wait_field, cycle_field, in_range}
 use Rattle.rules.specs.Effects.{Effect, cutting, quiet, starting, obeyed}
 use Rattle.rules.specs.Refusals.{Step, settled, refused, Check, checks, macro_checks}
@@ -24,7 +23,7 @@ use Rattle.laws.proofs.Kept.{kept_same, kept_told}
 use Rattle.laws.proofs.Turns.{without_one}
 use Rattle.laws.proofs.Steps.{Fit, Does, Steps, settles, turned_down}
 use Rattle.laws.proofs.Waits.{does_delay, does_timer, does_ctime, does_tick}
-use Rattle.laws.proofs.Cuts.{Aborts, does_cut}
+use Rattle.laws.proofs.Cuts.{does_cut}
 use Rattle.laws.proofs.Obeyed.{does_chap, does_susp, does_rsum, does_nothing, does_start, does_exit, does_rleas, does_factor, does_gfact, does_clock}
 
 or_false : (a : Bool) → (a || false) ≡ a

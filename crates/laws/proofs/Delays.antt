@@ -1,8 +1,8 @@
 -- How many delays of a task stand in the timer table, and how that fits the marks of its entries.
-use Rattle.std.proofs.Common.{◌≡◌, ℕ, ◌+◌, Bool, true, false, cond, not, ◌&&◌, eqb, List, [], ◌∷◌, ◌++◌, length, filter, sym, refl, ap, ◌∙◌, arith}
+use Rattle.std.proofs.Common.{◌≡◌, ℕ, ◌+◌, Bool, true, false, cond, not, ◌&&◌, eqb, List, [], ◌∷◌, ◌++◌, filter, sym, refl, ap, ◌∙◌, arith}
 use Rattle.std.specs.List.{AllByRecursion as All}
 use Rattle.table.specs.declared.timer.TimerPlace.{TimerPlace}
-use Rattle.table.specs.declared.selection.Selection.TheVariants.{Set, Delay}
+use Rattle.table.specs.declared.selection.Selection.TheVariants.{Delay}
 use Rattle.table.specs.Timers.{timer_selected}
 use Rattle.laws.specs.Laws.{one}
 use Rattle.laws.proofs.Marks.{Tri, Tri.same, Tri.apart, Tri.other, tri, through, head_set}

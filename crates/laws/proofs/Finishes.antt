@@ -1,5 +1,5 @@
 -- The end of a start, and the cut of all starts of a task, keep what ties the tasks to the events.
-use Rattle.std.proofs.Common.{◌≡◌, ℕ, zero, suc, ◌+◌, ◌-◌, ◌<◌, ◌≤◌, Bool, true, false, cond, not, ◌&&◌, eqb, ◌⊎◌, List, [], ◌∷◌, ◌++◌, length, replicate, sym, refl, ap, ◌∙◌, subst, inl, inr, append_assoc, arith}
+use Rattle.std.proofs.Common.{◌≡◌, ℕ, zero, suc, ◌+◌, ◌<◌, ◌≤◌, Bool, true, false, cond, not, ◌&&◌, eqb, ◌⊎◌, List, [], ◌∷◌, ◌++◌, length, replicate, sym, refl, ap, ◌∙◌, subst, inl, inr, append_assoc, arith}
 use Rattle.std.specs.List.{AllByRecursion as All}
 use Rattle.std.proofs.lemmas.Bool.{cases_Bool, cond_both, eqb-true, eqb-false, cond-true, cond-false, ne_eqb, not-true}
 use Rattle.std.proofs.lemmas.List.{append-nil}
@@ -16,7 +16,7 @@ use Rattle.rules.specs.Starts.{finished, stripped, cut_events}
 use Rattle.laws.specs.Laws.{is_of, one, tally}
 use Rattle.laws.proofs.Marks.{marks_of, rest, count_marks, marks_ended, marks_cleared}
 use Rattle.laws.proofs.Delays.{Fits, fits_rest}
-use Rattle.laws.proofs.Starts.{tasks, drop_t, tally_append, fin, unfinished, order_end, order_cut}
+use Rattle.laws.proofs.Starts.{tasks, drop_t, tally_append, unfinished, order_end, order_cut}
 use Rattle.laws.proofs.First.{tasks_of, all_kept}
 use Rattle.laws.proofs.Kept.{Kept}
 

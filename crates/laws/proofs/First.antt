@@ -1,5 +1,5 @@
 -- The best of a list of entries by level and age, and the oldest entry of each task.
-use Rattle.std.proofs.Common.{◌≡◌, ℕ, suc, ◌<◌, ◌≤◌, Bool, true, false, cond, not, eqb, ltb, ◌⊎◌, List, [], ◌∷◌, map, length, Some, None, filter, Option, sym, refl, ap, ◌∙◌, subst, inl, inr, arith}
+use Rattle.std.proofs.Common.{◌≡◌, ℕ, suc, ◌<◌, ◌≤◌, Bool, true, false, not, eqb, ltb, ◌⊎◌, List, [], ◌∷◌, map, Some, None, filter, Option, sym, refl, ◌∙◌, subst, inl, inr, arith}
 use Rattle.std.specs.List.{AllByRecursion as All}
 use Rattle.std.proofs.lemmas.Bool.{cases_Bool, cond_both, eqb-true, eqb-false, cond-true, cond-false, eq-eqb, ne_eqb, ltb-true, ltb-false, not-true, not_from_false, both_ways, cases_order}
 use Rattle.std.proofs.ByRecursion.{All-weaker}

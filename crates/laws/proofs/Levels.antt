@@ -1,15 +1,15 @@
 -- A change of a task's level keeps what ties the tasks to the events.
-use Rattle.std.proofs.Common.{◌≡◌, ℕ, ◌+◌, ◌<◌, ◌≤◌, Bool, true, false, cond, eqb, ◌⊎◌, List, [], ◌∷◌, sym, refl, ap, ◌∙◌, subst, ap₂, inl, inr, arith}
+use Rattle.std.proofs.Common.{◌≡◌, ℕ, ◌+◌, ◌<◌, true, false, cond, eqb, ◌⊎◌, List, [], ◌∷◌, sym, refl, ap, ◌∙◌, subst, ap₂, inl, inr, arith}
 use Rattle.std.specs.List.{AllByRecursion as All}
 use Rattle.std.proofs.lemmas.Bool.{cases_Bool, cond_both, eqb-true, eqb-false, cond-true, cond-false, eq-eqb, ne_eqb}
 use Rattle.sheet.specs.declared.event.Event.{Event}
 use Rattle.roll.specs.declared.entry.Entry.{Entry}
 use Rattle.roll.specs.Tables.{put}
-use Rattle.roll.specs.Entries.{of?, count_of, raised, levelled}
+use Rattle.roll.specs.Entries.{of?, raised, levelled}
 use Rattle.roll.proofs.Counts.{count_levelled}
 use Rattle.rules.specs.State.{Tasks}
 use Rattle.rules.specs.Effects.{levelling}
-use Rattle.laws.proofs.Marks.{marks_of, marks_levelled}
+use Rattle.laws.proofs.Marks.{marks_levelled}
 use Rattle.laws.proofs.Delays.{Fits}
 use Rattle.laws.proofs.Starts.{fin}
 use Rattle.laws.proofs.First.{tasks_of}

@@ -1,5 +1,5 @@
 -- The other obeyed calls, in the words of the laws: levels, holds, starts, the end of a start, and what the laws do not name.
-use Rattle.std.proofs.Common.{◌≡◌, ℕ, ◌<◌, ◌≤◌, Bool, true, false, cond, ◌||◌, eqb, ◌⊎◌, List, [], ◌∷◌, ◌++◌, Some, None, Option, sym, refl, ap, ◌∙◌, inl, inr, arith}
+use Rattle.std.proofs.Common.{◌≡◌, ℕ, ◌<◌, Bool, true, false, cond, ◌||◌, eqb, ◌⊎◌, List, [], ◌∷◌, ◌++◌, Some, None, Option, sym, refl, ap, ◌∙◌, inl, inr}
 use Rattle.std.proofs.lemmas.Bool.{cases_Bool, cond-false, eqb-true, ne_eqb, ltb-true, true≢false}
 use Rattle.sheet.specs.declared.event.Event.{Event}
 use Rattle.sheet.specs.declared.event.Kind.TheVariants.{Accepted, Ended}
@@ -12,9 +12,9 @@ use Rattle.rules.specs.declared.answer.Code.TheVariants.{Done}
 use Rattle.rules.specs.declared.call.Call.{Call}
 use Rattle.rules.specs.declared.call.Call.TheVariants.{Macro as Issues}
 use Rattle.rules.specs.declared.call.Macro.TheVariants.{Rleas, Abort, Chap, Gfact, Susp, Rsum, Exit}
-use Rattle.rules.specs.State.{Setup, Tasks, State, running as first}
+use Rattle.rules.specs.State.{Setup, State, running as first}
 use Rattle.rules.specs.Starts.{room_for, accepted, factored}
-use Rattle.rules.specs.Effects.{Effect, quiet, in_tasks, ending, starting, releasing, levelling, holding, without, smallest_of, taking}
+use Rattle.rules.specs.Effects.{quiet, in_tasks, ending, starting, releasing, levelling, holding, without, smallest_of, taking}
 use Rattle.laws.specs.Asks.{Verb.other, asked}
 use Rattle.laws.proofs.Delays.{delays_of}
 use Rattle.laws.proofs.Kept.{Kept, kept_same, kept_beside, kept_accepted}

@@ -1,13 +1,12 @@
 -- The starts that a list of events leaves unfinished, oldest first.
-use Rattle.std.proofs.Common.{◌≡◌, ℕ, suc, ◌+◌, ◌-◌, ◌≤◌, Bool, true, false, cond, ◌&&◌, eqb, ◌⊎◌, List, [], ◌∷◌, ◌++◌, map, length, sym, refl, ap, ◌∙◌, subst, inl, inr, arith}
+use Rattle.std.proofs.Common.{◌≡◌, ℕ, suc, ◌+◌, ◌-◌, ◌≤◌, Bool, true, false, cond, ◌&&◌, eqb, ◌⊎◌, List, [], ◌∷◌, ◌++◌, map, sym, refl, ap, ◌∙◌, inl, inr, arith}
 use mathlib.Core.Path.{fun_ext}
-use Rattle.std.specs.List.{AllByRecursion as All}
 use Rattle.std.proofs.lemmas.Bool.{cases_Bool, eqb-true, eqb-false, cond-true, cond-false, eq-eqb, ne_eqb}
 use Rattle.sheet.specs.declared.event.Event.{Event}
 use Rattle.sheet.specs.declared.event.Kind.{Kind}
 use Rattle.sheet.specs.declared.event.Kind.TheVariants.{Accepted, Ended, Cut}
 use Rattle.sheet.specs.Events.{event}
-use Rattle.laws.specs.Laws.{is_of, one, tally, place}
+use Rattle.laws.specs.Laws.{is_of, one, tally}
 
 pub record Start : Type 0 where
   pub task : ℕ

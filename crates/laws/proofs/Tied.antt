@@ -1,5 +1,5 @@
 -- What ties a history to the state that it leads to, from power-up on over every call.
-use Rattle.std.proofs.Common.{◌≡◌, ℕ, ◌+◌, ◌≤◌, Bool, true, false, cond, ◌||◌, eqb, List, [], ◌∷◌, ◌++◌, length, sym, refl, ap, ◌∙◌, ap₂, subst₂, arith}
+use Rattle.std.proofs.Common.{◌≡◌, ℕ, ◌+◌, ◌≤◌, Bool, true, false, cond, ◌||◌, eqb, List, [], ◌∷◌, ◌++◌, sym, refl, ap, ◌∙◌, ap₂, subst₂, arith}
 use Rattle.std.specs.List.{flat_map}
 use Rattle.sheet.specs.declared.event.Event.{Event}
 use Rattle.table.specs.declared.timer.TimerPlace.{TimerPlace}

@@ -1,5 +1,5 @@
 -- The timer table by the history alone: each live timer and delay, with what is left of its wait.
-use Rattle.std.proofs.Common.{◌≡◌, ℕ, zero, suc, ◌+◌, ◌-◌, ◌<◌, ◌≤◌, Bool, true, false, cond, not, ◌&&◌, ◌||◌, eqb, ltb, leb, ◌⊎◌, List, [], ◌∷◌, ◌++◌, length, Some, None, sym, refl, ap, ◌∙◌, ap₂, inl, inr, arith, length-append}
+use Rattle.std.proofs.Common.{◌≡◌, ℕ, zero, suc, ◌+◌, ◌-◌, ◌<◌, ◌≤◌, Bool, true, false, cond, not, ◌&&◌, ◌||◌, eqb, ltb, leb, ◌⊎◌, List, [], ◌∷◌, ◌++◌, Some, None, sym, refl, ap, ◌∙◌, ap₂, inl, inr, arith}
 use Rattle.std.specs.List.{flat_map}
 use Rattle.std.proofs.lemmas.Bool.{cond-false, ne_eqb, lt-ltb, le-ltb, le-leb, lt-leb, cases_lt}
 use Rattle.sheet.specs.declared.event.Kind.TheVariants.{Cut}
@@ -9,7 +9,7 @@ use Rattle.table.specs.Timers.{with_wait, timer_after}
 use Rattle.table.proofs.Beats.{joined_append}
 use Rattle.laws.specs.Histories.{Seen, History, History.powered, History.then}
 use Rattle.laws.specs.Asks.{Verb.tick, Verb.ctime, Verb.timer, Verb.delay, of, does, does_to}
-use Rattle.laws.specs.Laws.{one, tally, running, ticks, cuts, cancels, sleeps, stands, live}
+use Rattle.laws.specs.Laws.{one, tally, running, ticks, cuts, cancels, sleeps, stands}
 
 abbrev pub only : Bool → TimerPlace → List TimerPlace
 only b p = cond b (p ∷ []) []

@@ -1,5 +1,5 @@
 -- Delays, timers, ctime and the tick, in the words of the laws.
-use Rattle.std.proofs.Common.{◌≡◌, ℕ, suc, ◌+◌, ◌-◌, ◌≤◌, Bool, true, false, cond, not, ◌&&◌, ◌||◌, eqb, ltb, leb, ◌⊎◌, List, [], ◌∷◌, ◌++◌, length, Some, None, filter, Option, sym, refl, ap, ◌∙◌, subst, ap₂, inl, inr, append_assoc, arith, length-append}
+use Rattle.std.proofs.Common.{◌≡◌, ℕ, suc, ◌+◌, ◌-◌, ◌≤◌, Bool, true, false, cond, not, ◌&&◌, ◌||◌, eqb, ltb, ◌⊎◌, List, [], ◌∷◌, ◌++◌, length, Some, None, filter, Option, sym, refl, ap, ◌∙◌, subst, ap₂, inl, inr, append_assoc, arith, length-append}
 use Rattle.std.specs.List.{flat_map}
 use Rattle.std.proofs.lemmas.Bool.{cases_Bool, cond_both, eqb-true, eqb-false, eq-eqb, ne_eqb, leb-false, or_right, not-true, and_parts}
 use Rattle.std.proofs.lemmas.List.{append-nil}
@@ -11,13 +11,12 @@ use Rattle.table.specs.declared.selection.Selection.TheVariants.{Set}
 use Rattle.table.specs.Rows.{listed, lefts, firings, all_fired, all_told}
 use Rattle.table.specs.Timers.{due, with_wait, timer_after, timer_fires, timer_selected, delay_place, timer_place}
 use Rattle.rules.specs.declared.answer.Code.TheVariants.{Done}
-use Rattle.rules.specs.declared.call.Call.{Call}
 use Rattle.rules.specs.declared.call.Call.TheVariants.{Macro as Issues, Tick}
 use Rattle.rules.specs.declared.call.Macro.TheVariants.{Delay, Timer, Ctime}
 use Rattle.rules.specs.State.{Setup, Tasks, State, numbered, running as first}
 use Rattle.rules.specs.Starts.{slept, fired, tells}
 use Rattle.rules.specs.Tables.{timers_full, timers_without, wake_firings, reached, tasks_after_timers, ticked, tick_events}
-use Rattle.rules.specs.Effects.{Effect, in_timers, quiet, telling, sleeping}
+use Rattle.rules.specs.Effects.{in_timers, quiet, telling, sleeping}
 use Rattle.laws.specs.Laws.{one}
 use Rattle.laws.proofs.Marks.{marks_of}
 use Rattle.laws.proofs.Delays.{delays_of, delays_append}
@@ -26,7 +25,7 @@ use Rattle.laws.proofs.Timers.{after, beaten}
 use Rattle.laws.proofs.Kept.{Kept, kept_delays, kept_same, kept_slept}
 use Rattle.laws.proofs.Firings.{kept_timers, kept_wakes, same_levels, same_holds}
 use Rattle.laws.proofs.Turns.{without_append, firings_tell}
-use Rattle.laws.proofs.Steps.{Fit, Does, heard, joined_ext, joined_kept, after_beat, unchanged, unchanged_nil}
+use Rattle.laws.proofs.Steps.{Fit, Does, heard, joined_ext, joined_kept, after_beat, unchanged}
 
 -- ---- the issuer's current start is awake
 pub issuer : (s : Tasks) → (first s ≡ 0 → ⊥) → (bs : List Bool) × (marks_of (first s) s.roll.entries ≡ false ∷ bs)

@@ -9,7 +9,7 @@ use Rattle.rules.specs.declared.call.Call.TheVariants.{Macro as Issues}
 use Rattle.rules.specs.declared.call.Macro.TheVariants.{Delay, Timer}
 use Rattle.rules.specs.State.{Setup, State}
 use Rattle.laws.specs.Histories.{Seen, History, History.powered, History.then, Reached, events}
-use Rattle.laws.specs.Asks.{Verb, Verb.tick, Verb.delay, Verb.timer, Verb.ctime, Verb.chap, Verb.susp, Verb.rsum, of, number, does, does_to, aborts}
+use Rattle.laws.specs.Asks.{Verb.tick, Verb.delay, Verb.timer, Verb.ctime, Verb.chap, Verb.susp, Verb.rsum, of, number, does, does_to, aborts}
 
 -- Events.
 
