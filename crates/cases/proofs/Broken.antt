@@ -1,12 +1,10 @@
 -- Each wrong history, and the law that it breaks.
-use Rattle.std.proofs.Common.{◌≡◌, ℕ, ◌+◌, ◌<◌, ◌≤◌, Bool, true, false, ◌⊎◌, List, [], ◌∷◌, refl, inl, inr, arith, lit<, lit≤}
+use Rattle.std.proofs.Common.{◌≡◌, ℕ, ◌+◌, ◌<◌, ◌≤◌, ◌⊎◌, refl, inl, inr, arith, lit<, lit≤}
 use Rattle.std.proofs.lemmas.Bool.{true≢false}
 use Rattle.roll.specs.Model.{count_in}
 use Rattle.rules.specs.declared.call.Call.TheVariants.{Macro as Issues}
 use Rattle.rules.specs.declared.call.Macro.TheVariants.{Delay}
-use Rattle.rules.specs.State.{State}
-use Rattle.laws.specs.Histories.{Seen, History}
-use Rattle.laws.specs.Laws.{Ready, Tries, Sets, Sets.delays, Sets.times, Laws}
+use Rattle.laws.specs.Laws.{Sets, Sets.delays, Sets.times}
 use Rattle.cases.specs.Made.{alike}
 use Rattle.cases.specs.Refuted.{timer, Refuted}
 
