@@ -12,11 +12,11 @@ use Rattle.kernel.proofs.Same.{same_state}
 use Rattle.kernel.proofs.Beaten.{timer_events, wake_events, ticked_is_at, events_at}
 use Rattle.kernel.proofs.kernel.Kernel.beat.Goals as goal
 
-pub returns-in-default : goal.returns-in-default
-returns-in-default g c =
+pub returns-in_default : goal.returns-in_default
+returns-in_default g c =
     let s = (seen g.R.Roll.meaning g.R.Roll.lever c.args.self.now).state in
     let e = c.beat-told.ensures in
-    let at = c.in-default.ensures in
+    let at = c.in_default.ensures in
     let told : timer_events s ≡ tick_events s = sym (append-nil (timer_events s)) ∙ events_at None s at.second in
     record {
       setup = refl;

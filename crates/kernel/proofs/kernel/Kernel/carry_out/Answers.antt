@@ -13,9 +13,9 @@ returns-in-Macro g c =
 pub returns-in-Tick : goal.returns-in-Tick
 returns-in-Tick g c =
     let v = seen g.R.Roll.meaning g.R.Roll.lever c.args.self.now in
-    comes_as (ap (λ (x : Call). called v.setup v.state x (length c.args.sheet.now)) (sym c.in-Tick.is)) c.do-tick.ensures
+    comes_as (ap (λ (x : Call). called v.setup v.state x (length c.args.sheet.now)) (sym c.in-Tick.is)) c.do_tick.ensures
 
 pub returns-in-Coil : goal.returns-in-Coil
 returns-in-Coil g c =
     let v = seen g.R.Roll.meaning g.R.Roll.lever c.args.self.now in
-    comes_as (ap (λ (x : Call). called v.setup v.state x (length c.args.sheet.now)) (sym c.in-Coil.is)) c.do-coil.ensures
+    comes_as (ap (λ (x : Call). called v.setup v.state x (length c.args.sheet.now)) (sym c.in-Coil.is)) c.do_coil.ensures

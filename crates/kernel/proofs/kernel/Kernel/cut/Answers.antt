@@ -20,5 +20,5 @@ returns g c =
       state = same_state (e.state ∙ ap (stripped s t) c.level-level.ensures.value) c.remove.ensures.entries refl refl;
       count = e.count ∙ sym (length-replicate _ (event Cut t));
       bound = e.bound;
-      sheet = c.tell-times.ensures ∙ ap (λ (n : ℕ). written (replicate n (event Cut t)) c.args.sheet.now) e.count;
+      sheet = c.tell_times.ensures ∙ ap (λ (n : ℕ). written (replicate n (event Cut t)) c.args.sheet.now) e.count;
     }

@@ -13,5 +13,5 @@ pub returns : goal.returns
 returns g c =
     let v = seen g.R.Roll.meaning g.R.Roll.lever c.args.self.now in
     let same = ap (λ (x : State). let r : Station = record { setup = v.setup; state = x } in r) (retasked v.state (view g.R.Roll.meaning c.running-was.new.self) c.running-was.ensures.same) in
-    comes_as (called_coil v.setup v.state c.args.task (length c.args.sheet.now) (le-ltb _ 100 c.if-sheet-lt-LEAST-SHEET.false) (sym c.if-not-is-task-field.ensures))
+    comes_as (called_coil v.setup v.state c.args.task (length c.args.sheet.now) (le-ltb _ 100 c.if-sheet-lt-LEAST_SHEET.false) (sym c.if-not-is_task_field.ensures))
     (comes_by (λ b s x. begun b s c.args.task None) 0 0 same refl c.begin.ensures)

@@ -19,6 +19,6 @@ returns g c =
     let e = c.settle.ensures in
     let f = c.beat-told.ensures in
     let same = retasked s (view g.R.Roll.meaning c.running-was.new.self) c.running-was.ensures.same in
-    comes_as (passed1 (short v.setup s (length c.args.sheet.now)) (settled s Done (telling (ticked s) (tick_events s))) (le-ltb _ 100 c.if-sheet-lt-LEAST-SHEET.false))
+    comes_as (passed1 (short v.setup s (length c.args.sheet.now)) (settled s Done (telling (ticked s) (tick_events s))) (le-ltb _ 100 c.if-sheet-lt-LEAST_SHEET.false))
     (settled_comes Done (telling (ticked s) (tick_events s)) c.running-was.result c.beat-told.result false c.running-was.ensures.answer refl refl
     f.setup (f.state ∙ ap ticked same) (f.count ∙ ap (λ (x : State). length (tick_events x)) same) (f.sheet ∙ ap (λ (x : State). written (tick_events x) c.args.sheet.now) same) e.same e.answer e.sheet)

@@ -16,14 +16,14 @@ returns-in-Err g c =
     comes_as (called_refused v.setup v.state c.args.m (length c.args.sheet.now) c.in-Err.code e.answer)
     (refused_comes c.in-Err.code (ap (λ (x : Station). x.setup) e.same) (ap (λ (x : Station). x.state) e.same) c.silent.ensures)
 
-pub returns-then-not-is-in-range : goal.returns-then-not-is-in-range
-returns-then-not-is-in-range g c =
+pub returns-then-not-is_in_range : goal.returns-then-not-is_in_range
+returns-then-not-is_in_range g c =
     let v = seen g.R.Roll.meaning g.R.Roll.lever c.args.self.now in
     let e = c.in-Ok.ensures in
     let r = running v.state.tasks in
     let h = issuer_ok (length c.args.sheet.now) r c.in-Ok.issuer e.answer in
-    comes_as (called_cut v.setup v.state c.args.m (length c.args.sheet.now) h.0 h.1 (sym c.if-not-is-in-range.ensures))
-    (comes_by (λ b s x. settled s FieldRange (cutting b s x x)) c.in-Ok.issuer r e.same h.2 c.cut-issuer.ensures)
+    comes_as (called_cut v.setup v.state c.args.m (length c.args.sheet.now) h.0 h.1 (sym c.if-not-is_in_range.ensures))
+    (comes_by (λ b s x. settled s FieldRange (cutting b s x x)) c.in-Ok.issuer r e.same h.2 c.cut_issuer.ensures)
 
 pub returns : goal.returns
 returns g c =
@@ -31,5 +31,5 @@ returns g c =
     let e = c.in-Ok.ensures in
     let r = running v.state.tasks in
     let h = issuer_ok (length c.args.sheet.now) r c.in-Ok.issuer e.answer in
-    comes_as (called_issued v.setup v.state c.args.m (length c.args.sheet.now) h.0 h.1 (sym c.if-not-is-in-range.ensures))
+    comes_as (called_issued v.setup v.state c.args.m (length c.args.sheet.now) h.0 h.1 (sym c.if-not-is_in_range.ensures))
     (comes_by (λ b s x. issued b s x c.args.m) c.in-Ok.issuer r e.same h.2 c.obey.ensures)

@@ -14,6 +14,6 @@ returns g c =
     let r = c.args.issuer in
     let e = c.settle.ensures in
     let f = c.cut-told.ensures in
-    let there = sym (cond-true (v.setup.registered t) (cutting v.setup v.state t r) (quiet v.state) (sym c.if-not-is-registered.ensures.value)) in
+    let there = sym (cond-true (v.setup.registered t) (cutting v.setup v.state t r) (quiet v.state) (sym c.if-not-is_registered.ensures.value)) in
     comes_as (ap (λ (x : Effect). settled v.state Done x) there)
     (settled_comes Done (cutting v.setup v.state t r) r c.cut-told.result (eqb t r) c.requires.issuer refl refl f.setup f.state f.count f.sheet e.same e.answer e.sheet)

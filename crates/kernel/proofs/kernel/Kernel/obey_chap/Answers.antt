@@ -14,5 +14,5 @@ returns g c =
     let t = c.args.task in
     let e = c.settle.ensures in
     let what = quiet (in_tasks s (levelling s.tasks t c.args.level)) in
-    comes_as (passed2 (unregistered v.setup s t) (dormant v.setup s t) (settled s Done what) (ap not (sym c.if-not-is-registered.ensures.value)) (ap not (sym c.if-not-is-released.ensures)))
-    (settled_comes Done what c.args.issuer 0 false c.requires.issuer refl refl refl (same_state c.set-level.ensures refl refl refl) refl refl e.same e.answer e.sheet)
+    comes_as (passed2 (unregistered v.setup s t) (dormant v.setup s t) (settled s Done what) (ap not (sym c.if-not-is_registered.ensures.value)) (ap not (sym c.if-not-is_released.ensures)))
+    (settled_comes Done what c.args.issuer 0 false c.requires.issuer refl refl refl (same_state c.set_level.ensures refl refl refl) refl refl e.same e.answer e.sheet)

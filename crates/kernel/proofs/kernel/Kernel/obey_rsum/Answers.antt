@@ -17,5 +17,5 @@ returns g c =
     let f = c.if-not-unhold.ensures in
     let what = quiet (in_tasks s (holding s.tasks t false)) in
     comes_as (passed4 (unregistered v.setup s t) (leverless v.setup s) (dormant v.setup s t) (not_held v.setup s t) (settled s Done what)
-    (ap not (sym c.if-not-is-registered.ensures.value)) (ap not (sym c.if-not-has-lever.ensures)) (ap not (sym c.if-not-is-released.ensures)) (ap not (sym f.answer)))
+    (ap not (sym c.if-not-is_registered.ensures.value)) (ap not (sym c.if-not-has_lever.ensures)) (ap not (sym c.if-not-is_released.ensures)) (ap not (sym f.answer)))
     (settled_comes Done what c.args.issuer 0 false c.requires.issuer refl refl refl (same_state f.state refl refl refl) refl refl e.same e.answer e.sheet)

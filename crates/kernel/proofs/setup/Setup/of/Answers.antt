@@ -18,8 +18,8 @@ loop-task-preserved c =
       length-set c.loop-task.written c.loop-task.task c.level.result ∙ i.3,
     )
 
-pub invariant-of-result : goal.invariant-of-result
-invariant-of-result c =
+pub invariant_of-result : goal.invariant_of-result
+invariant_of-result c =
     let i = c.loop-task.invariant in
     let b = c.args.book.bytes.now in
     let e = agrees_all c.loop-task.written 0 (level_in b) 128 i.3 (λ k lt. i.1 k (omega arith)) (level_past b c.args.book.sound) in
