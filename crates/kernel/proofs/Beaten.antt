@@ -1,5 +1,5 @@
 -- What a tick does, with the second that it reaches set apart.
-use Rattle.std.proofs.Common.{◌≡◌, ℕ, List, ◌++◌, Option, refl, ap}
+use Rattle.std.proofs.Common.{◌≡◌, ℕ, List, ◌++◌, Option, ap}
 use Rattle.sheet.specs.declared.event.Event.{Event}
 use Rattle.table.specs.Rows.{lefts, firings, all_fired, all_told}
 use Rattle.table.specs.Timers.{timer_after, timer_fires}

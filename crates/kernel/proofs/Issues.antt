@@ -1,18 +1,17 @@
 -- The checks that are common to all macros.
-use Rattle.std.proofs.Common.{◌≡◌, ℕ, Bool, true, false, cond, not, eqb, ltb, ◌⊎◌, List, [], ◌∷◌, length, None, Ok, Err, Result, sym, refl, ap, ◌∙◌, subst, inl, inr, arith}
+use Rattle.std.proofs.Common.{◌≡◌, ℕ, Bool, true, false, cond, not, eqb, ltb, List, ◌∷◌, None, Ok, Err, Result, sym, refl, ap, ◌∙◌, subst, arith}
 use Rattle.std.proofs.lemmas.Bool.{cond-true, cond-false}
 use Rattle.sheet.specs.declared.event.Event.{Event}
 use Rattle.rules.specs.declared.answer.Code.{Code}
 use Rattle.rules.specs.declared.answer.Code.TheVariants.{Done, ShortSheet, Idle, FieldRange, CoilRange}
 use Rattle.rules.specs.declared.answer.Answer.{Answer}
-use Rattle.rules.specs.declared.call.Call.{Call}
 use Rattle.rules.specs.declared.call.Call.TheVariants.{Macro as Issued, Coil}
 use Rattle.rules.specs.declared.call.Macro.{Macro}
 use Rattle.rules.specs.State.{Setup, State, Station, running}
 use Rattle.rules.specs.Fields.{task_field, in_range}
 use Rattle.rules.specs.Effects.{cutting, obeyed, starting}
-use Rattle.rules.specs.Refusals.{Step, Check, settled, refused, short, idle, bad_field, bad_coil, macro_checks}
-use Rattle.rules.specs.Calls.{answered, called, Comes, Performed}
+use Rattle.rules.specs.Refusals.{Step, settled, refused, idle, bad_field, bad_coil, macro_checks}
+use Rattle.rules.specs.Calls.{answered, called, Comes}
 use Rattle.kernel.specs.Obeys.{issued, begun, start_checks}
 
 -- who issues, or why not

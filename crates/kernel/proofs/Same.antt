@@ -1,5 +1,5 @@
 -- Stations and states that agree in all their parts.
-use Rattle.std.proofs.Common.{◌≡◌, ℕ, Bool, false, List, [], replicate, sym, refl, ap, ◌∙◌}
+use Rattle.std.proofs.Common.{◌≡◌, ℕ, Bool, List, [], replicate, ap, ◌∙◌}
 use Rattle.table.specs.declared.timer.TimerPlace.{TimerPlace}
 use Rattle.table.specs.declared.wake.WakePlace.{WakePlace}
 use Rattle.table.specs.Rows.{entries}

@@ -10,7 +10,7 @@ use Rattle.sheet.specs.Sheets.{written}
 use Rattle.rules.specs.declared.answer.Code.{Code}
 use Rattle.rules.specs.declared.answer.Code.TheVariants.{Done}
 use Rattle.rules.specs.declared.answer.Answer.{Answer}
-use Rattle.rules.specs.State.{Setup, Tasks, State, Station, running}
+use Rattle.rules.specs.State.{State, Station, running}
 use Rattle.rules.specs.Effects.{Effect, quiet}
 use Rattle.rules.specs.Refusals.{Step, turn, settled, refused, Check}
 use Rattle.rules.specs.Calls.{answered, Comes}

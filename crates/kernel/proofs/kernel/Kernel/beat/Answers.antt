@@ -1,10 +1,10 @@
-use Rattle.std.proofs.Common.{◌≡◌, ℕ, ◌-◌, List, ◌++◌, length, take, drop, Some, None, Option, sym, refl, ap, ◌∙◌, arith}
+use Rattle.std.proofs.Common.{◌≡◌, ◌-◌, List, length, take, drop, Some, None, sym, refl, ap, ◌∙◌, arith}
 use Rattle.std.proofs.lemmas.List.{append-nil, length-append}
 use Rattle.sheet.specs.declared.event.Event.{Event}
 use Rattle.sheet.specs.Sheets.{written}
 use Rattle.sheet.proofs.Fronts.{written_behind}
-use Rattle.table.specs.Rows.{firings, all_fired, all_told}
-use Rattle.rules.specs.State.{Tasks, State}
+use Rattle.table.specs.Rows.{all_fired, all_told}
+use Rattle.rules.specs.State.{Tasks}
 use Rattle.rules.specs.Starts.{fired, tells}
 use Rattle.rules.specs.Tables.{wake_firings, tick_events}
 use Rattle.kernel.specs.Views.{seen}

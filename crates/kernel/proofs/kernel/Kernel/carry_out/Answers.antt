@@ -1,4 +1,4 @@
-use Rattle.std.proofs.Common.{◌≡◌, length, sym, refl, ap, ◌∙◌}
+use Rattle.std.proofs.Common.{length, sym, ap}
 use Rattle.rules.specs.declared.call.Call.{Call}
 use Rattle.rules.specs.Calls.{called}
 use Rattle.kernel.specs.Views.{seen}

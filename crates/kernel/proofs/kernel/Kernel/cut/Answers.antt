@@ -1,10 +1,8 @@
-use Rattle.std.proofs.Common.{◌≡◌, ℕ, length, replicate, sym, refl, ap, ◌∙◌, arith}
+use Rattle.std.proofs.Common.{ℕ, replicate, sym, refl, ap, ◌∙◌}
 use Rattle.std.proofs.lemmas.List.{length-replicate}
-use Rattle.sheet.specs.declared.event.Event.{Event}
 use Rattle.sheet.specs.declared.event.Kind.TheVariants.{Cut}
 use Rattle.sheet.specs.Events.{event}
 use Rattle.sheet.specs.Sheets.{written}
-use Rattle.rules.specs.State.{Tasks}
 use Rattle.rules.specs.Starts.{stripped}
 use Rattle.tasks.specs.Views.{view}
 use Rattle.kernel.proofs.Same.{same_state}

@@ -1,4 +1,4 @@
-use Rattle.std.proofs.Common.{◌≡◌, not, length, None, sym, refl, ap, ◌∙◌}
+use Rattle.std.proofs.Common.{length, None, sym, refl, ap}
 use Rattle.std.proofs.lemmas.Bool.{le-ltb}
 use Rattle.rules.specs.State.{State, Station}
 use Rattle.tasks.specs.Views.{view}

@@ -1,8 +1,8 @@
-use Rattle.std.proofs.Common.{◌≡◌, false, length, sym, refl, ap, ◌∙◌, arith}
+use Rattle.std.proofs.Common.{false, length, refl, ap, ◌∙◌}
 use Rattle.std.proofs.lemmas.Bool.{le-ltb}
 use Rattle.sheet.specs.Sheets.{written}
 use Rattle.rules.specs.declared.answer.Code.TheVariants.{Done}
-use Rattle.rules.specs.State.{State, Station, Setup, Tasks}
+use Rattle.rules.specs.State.{State}
 use Rattle.rules.specs.Tables.{ticked, tick_events}
 use Rattle.rules.specs.Effects.{telling}
 use Rattle.rules.specs.Refusals.{settled, short}

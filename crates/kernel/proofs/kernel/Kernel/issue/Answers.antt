@@ -1,6 +1,6 @@
-use Rattle.std.proofs.Common.{◌≡◌, not, length, sym, refl, ap, ◌∙◌}
+use Rattle.std.proofs.Common.{length, sym, ap}
 use Rattle.rules.specs.declared.answer.Code.TheVariants.{FieldRange}
-use Rattle.rules.specs.State.{State, Station, running}
+use Rattle.rules.specs.State.{Station, running}
 use Rattle.rules.specs.Effects.{cutting}
 use Rattle.rules.specs.Refusals.{settled}
 use Rattle.kernel.specs.Views.{seen}

@@ -1,4 +1,4 @@
-use Rattle.std.proofs.Common.{◌≡◌, cond, eqb, sym, refl, ap}
+use Rattle.std.proofs.Common.{eqb, sym, refl, ap}
 use Rattle.std.proofs.lemmas.Bool.{cond-true}
 use Rattle.rules.specs.declared.answer.Code.TheVariants.{Done}
 use Rattle.rules.specs.Effects.{Effect, cutting, quiet}

@@ -1,5 +1,4 @@
-use Rattle.std.proofs.Common.{true, false, not, sym, refl, ap}
-use Rattle.std.proofs.lemmas.Bool.{not-true}
+use Rattle.std.proofs.Common.{false, not, sym, refl, ap}
 use Rattle.rules.specs.declared.answer.Code.TheVariants.{Done}
 use Rattle.rules.specs.Effects.{quiet, in_tasks, holding}
 use Rattle.rules.specs.Refusals.{settled, unregistered, leverless, dormant, not_held}

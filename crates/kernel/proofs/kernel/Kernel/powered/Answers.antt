@@ -1,4 +1,4 @@
-use Rattle.std.proofs.Common.{◌≡◌, ℕ, List, get_or, sym, refl, ap, ◌∙◌}
+use Rattle.std.proofs.Common.{ℕ, List, get_or, ap, ◌∙◌}
 use Rattle.rules.specs.Starts.{started_tasks}
 use Rattle.kernel.proofs.Same.{same_state, same_setup, same_station, no_timers, no_wakes}
 use Rattle.kernel.proofs.kernel.Kernel.powered.Goals as goal

@@ -1,4 +1,4 @@
-use Rattle.std.proofs.Common.{◌≡◌, ℕ, zero, suc, ◌≤◌, true, false, get_or, sym, refl, ap, ◌∙◌, inl, inr, arith}
+use Rattle.std.proofs.Common.{false, get_or, sym, refl, ap, ◌∙◌, inl, inr, arith}
 use Rattle.std.proofs.lemmas.Bool.{le-ltb, both_ways, cases_eq}
 use Rattle.std.proofs.lemmas.List.{get_or_past}
 use Rattle.kernel.proofs.setup.Setup.is_registered.Goals as goal

@@ -1,4 +1,4 @@
-use Rattle.std.proofs.Common.{◌≡◌, ℕ, ◌<◌, ◌≤◌, Bool, false, length, get_or, sym, refl, ap, ◌∙◌, subst, arith}
+use Rattle.std.proofs.Common.{◌≡◌, ℕ, ◌≤◌, false, sym, refl, ◌∙◌, subst, arith}
 use Rattle.std.proofs.lemmas.List.{length-set}
 use Rattle.book.specs.Reader.{registered_in, level_in}
 use Rattle.book.proofs.Clean.{level_range}
@@ -24,7 +24,7 @@ invariant_of-result c =
     let b = c.args.book.bytes.now in
     let e = agrees_all c.loop-task.written 0 (level_in b) 128 i.3 (λ k lt. i.1 k (omega arith)) (level_past b c.args.book.sound) in
     let none : registered_in b 0 ≡ false = none_zero b c.args.book.sound in
-    ((i.2, i.3), (i.0 0 (omega arith) ∙ none, ((λ t. subst (λ (f : ℕ → ℕ). f t ≤ 4) (sym e) (level_range b t c.args.book.sound)), tt)))
+    record { sized = (i.2, i.3); nobody = i.0 0 (omega arith) ∙ none; ranked = (λ t. subst (λ (f : ℕ → ℕ). f t ≤ 4) (sym e) (level_range b t c.args.book.sound)) }
 
 pub returns : goal.returns
 returns c =
