@@ -1,4 +1,4 @@
-use Rattle.std.proofs.Common.{◌≡◌, ℕ, ◌+◌, ◌<◌, ◌≤◌, min, List, [], ◌∷◌, ◌++◌, length, take, drop, sym, refl, ap, ◌∙◌, subst, arith}
+use Rattle.std.proofs.Common.{◌≡◌, ℕ, ◌+◌, ◌<◌, List, [], length, take, drop, sym, refl, ap, ◌∙◌, subst, arith}
 use Rattle.std.proofs.lemmas.List.{take_more, take_more_set, drop-set-lt, drop-drop}
 use Rattle.rules.specs.declared.answer.Answer.{Answer}
 use Rattle.rules.specs.declared.call.Call.{Call}
@@ -15,12 +15,12 @@ ran_as {b} {s} {cs} {cs'} {ks} {ks'} p q r = subst (λ (x : List Answer). Ran b 
 
 pub loop-i-init : goal.loop-i-init
 loop-i-init g c =
-    let v = seen g.R.Roll.meaning g.R.Roll.lever c.power-up-live.result in
+    let v = seen g.R.Roll.meaning g.R.Roll.lever c.power_up-live.result in
     let b = setup_in g.R.Roll.lever c.args.book.bytes.now in
-    let e : v ≡ record { setup = b; state = started b } = c.power-up-live.ensures.state in
+    let e : v ≡ record { setup = b; state = started b } = c.power_up-live.ensures.state in
     let setup : v.setup ≡ b = ap (λ (x : Station). x.setup) e in
     let state : started v.setup ≡ v.state = ap started setup ∙ sym (ap (λ (x : Station). x.state) e) in
-    (subst (λ (x : State). Ran v.setup [] [] x) state (ran_none v.setup (numbered c.power-up-live.result.kernel.setup)), setup, refl)
+    (subst (λ (x : State). Ran v.setup [] [] x) state (ran_none v.setup (numbered c.power_up-live.result.kernel.setup)), setup, refl)
 
 pub loop-i-preserved : goal.loop-i-preserved
 loop-i-preserved g c =

@@ -6,8 +6,8 @@ use Rattle.station.proofs.live.Live.perform.Goals as goal
 pub returns : goal.returns
 returns g c =
     let before = seen g.R.Roll.meaning g.R.Roll.lever c.args.self.now in
-    let after = seen g.R.Roll.meaning g.R.Roll.lever (record { kernel = c.carry-out.new.self }) in
+    let after = seen g.R.Roll.meaning g.R.Roll.lever (record { kernel = c.carry_out.new.self }) in
     record {
-      performed = c.carry-out.ensures;
-      lawful = carried before after c.args.call c.args.sheet.now c.carry-out.result c.carry-out.new.sheet (numbered c.args.self.now.kernel.setup) c.carry-out.ensures;
+      performed = c.carry_out.ensures;
+      lawful = carried before after c.args.call c.args.sheet.now c.carry_out.result c.carry_out.new.sheet (numbered c.args.self.now.kernel.setup) c.carry_out.ensures;
     }
