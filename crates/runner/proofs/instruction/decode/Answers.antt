@@ -17,9 +17,9 @@ letter_at row e q = ap (option_map (λ (l : Letter). meant l (fields_of row))) (
 
 pub returns-in-Some : goal.returns-in-Some
 returns-in-Some c =
-    let f = same_fields c.byte-at.ensures c.byte-at-2.ensures c.number-at.ensures c.number-at-2.ensures in
+    let f = same_fields c.byte_at.ensures c.byte_at-2.ensures c.number_at.ensures c.number_at-2.ensures in
     ap (λ (i : Instruction). let o : Option Instruction = Some i in o) (c.of.ensures ∙ ap (meant c.in-Some.letter) f)
-    ∙ letter_at c.args.row.now c.byte-at-3.ensures c.in-Some.ensures.value
+    ∙ letter_at c.args.row.now c.byte_at-3.ensures c.in-Some.ensures.value
 
 pub returns-in-None : goal.returns-in-None
-returns-in-None c = letter_at c.args.row.now c.byte-at-3.ensures c.in-None.ensures.value
+returns-in-None c = letter_at c.args.row.now c.byte_at-3.ensures c.in-None.ensures.value

@@ -10,15 +10,15 @@ unfolding stepped
 returns g c =
     let b = c.args.book.bytes.now in
     let p = progress_in g.R.Roll.meaning g.R.Roll.lever c.args.scripted.now in
-    let row = c.do-row-told.ensures in
-    let tick = c.do-tick-told.ensures in
+    let row = c.do_row-told.ensures in
+    let tick = c.do_tick-told.ensures in
     let gone = sent g.S.Sink.state g.S.Sink.took in
-    let told = c.do-row-told.result in
-    let told' = c.do-tick-told.result in
+    let told = c.do_row-told.result in
+    let told' = c.do_tick-told.result in
     record {
       progress = tick.progress ∙ ap (λ (x : Progress). (tick_done x).progress) row.progress;
-      lines = events_both g.S.Sink.took g.met.S.Sink.joined (gone c.args.sink.now c.args.buffer.now) (gone c.add-events.new.sink c.add-events.new.self) (gone c.add-events-2.new.sink c.add-events-2.new.self)
-          c.args.step (row_done b p).told (take (told - 0) c.do-row-told.new.sheet) (tick_done (row_done b p).progress).told (take (told' - 0) c.do-tick-told.new.sheet)
-          (front_part told c.do-row-told.new.sheet ∙ row.told) (front_part told' c.do-tick-told.new.sheet ∙ tick.told ∙ ap (λ (x : Progress). (tick_done x).told) row.progress)
-          c.in-ok-add-events.ensures c.in-ok-add-events-2.ensures;
+      lines = events_both g.S.Sink.took g.met.S.Sink.joined (gone c.args.sink.now c.args.buffer.now) (gone c.add_events.new.sink c.add_events.new.self) (gone c.add_events-2.new.sink c.add_events-2.new.self)
+          c.args.step (row_done b p).told (take (told - 0) c.do_row-told.new.sheet) (tick_done (row_done b p).progress).told (take (told' - 0) c.do_tick-told.new.sheet)
+          (front_part told c.do_row-told.new.sheet ∙ row.told) (front_part told' c.do_tick-told.new.sheet ∙ tick.told ∙ ap (λ (x : Progress). (tick_done x).told) row.progress)
+          c.in_ok-add_events.ensures c.in_ok-add_events-2.ensures;
     }

@@ -21,12 +21,12 @@ loop-done-preserved g c =
     let b = c.args.book.bytes.now in
     let lever = g.R.Roll.lever in
     let n = c.loop-done.done in
-    let e = c.in-ok-take-step.ensures in
+    let e = c.in_ok-take_step.ensures in
     let inv = c.loop-done.invariant in
     let gone = sent g.S.Sink.state g.S.Sink.took in
     let m = gone c.args.sink.now c.args.buffer.now in
     let m₁ = gone c.loop-done.sink c.loop-done.buffer in
-    let m₂ = gone c.take-step.new.sink c.take-step.new.buffer in
+    let m₂ = gone c.take_step.new.sink c.take_step.new.buffer in
     let lines = lines_of_events (n + 1) (stepped b (progress_after lever b n)).told in (
       e.progress ∙ ap (λ (x : Progress). (stepped b x).progress) inv.0 ∙ sym (after_more lever b n),
       took_two g.S.Sink.took g.met.S.Sink.joined m m₁ m₂ (step_lines lever b n) lines inv.1 (e.lines ∙ ap (λ (x : Progress). g.S.Sink.took m₁ (lines_of_events (n + 1) (stepped b x).told)) inv.0)

@@ -7,11 +7,11 @@ pub returns-in-Some : goal.returns-in-Some
 returns-in-Some g c =
     let m = sent g.S.Sink.state g.S.Sink.took c.args.sink.now c.args.buffer.now in
     let e = refused_listing g.R.Roll.lever c.args.bytes.now c.in-Some.fault (sym c.in-Some.is ∙ c.read-reading.ensures.fault) in
-    c.in-ok-add.ensures ∙ ap (g.S.Sink.took m) (c.fault-line.ensures ∙ e)
+    c.in_ok-add.ensures ∙ ap (g.S.Sink.took m) (c.fault_line.ensures ∙ e)
 
 pub returns : goal.returns
 returns g c =
     let m = sent g.S.Sink.state g.S.Sink.took c.args.sink.now c.args.buffer.now in
     let r = c.read-reading.ensures in
-    let e = clean_listing g.R.Roll.lever c.args.bytes.now c.read-reading.result.book.bytes.now (sym c.in-default.is ∙ r.fault) r.bytes in
-    c.in-ok-carry-out.ensures ∙ ap (g.S.Sink.took m) e
+    let e = clean_listing g.R.Roll.lever c.args.bytes.now c.read-reading.result.book.bytes.now (sym c.in_default.is ∙ r.fault) r.bytes in
+    c.in_ok-carry_out.ensures ∙ ap (g.S.Sink.took m) e

@@ -11,7 +11,7 @@ loop-event-preserved g c =
     let lt : i < length es = omega arith in
     let gone = sent g.S.Sink.state g.S.Sink.took in
     events_more g.S.Sink.took g.met.S.Sink.joined (gone c.args.sink.now c.args.self.now) (gone c.loop-event.sink c.loop-event.self) (gone c.add.new.sink c.add.new.self) c.args.step es i
-    (bytes_of c.event-line.result) lt c.loop-event.invariant c.in-ok-add.ensures c.event-line.ensures
+    (bytes_of c.event_line.result) lt c.loop-event.invariant c.in_ok-add.ensures c.event_line.ensures
 
 pub returns : goal.returns
 returns g c =

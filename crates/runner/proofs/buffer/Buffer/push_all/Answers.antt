@@ -3,13 +3,13 @@ use Rattle.std.proofs.lemmas.Slice.{take-put_mid}
 use Rattle.std.proofs.lemmas.List.{places}
 use Rattle.runner.proofs.buffer.Buffer.push_all.Goals as goal
 
-pub invariant-of-self : goal.invariant-of-self
-invariant-of-self c = (search (rules, places), (c.requires, tt))
+pub invariant_of-self : goal.invariant_of-self
+invariant_of-self c = (search (rules, places), (c.requires, tt))
 
 pub returns : goal.returns
 returns c =
     let buffer = c.args.self.now in
-    let now = c.copy-from-slice.new.self in
-    let size : buffer.len + length c.args.more.now ≡ buffer.len + length now = ap (λ (l : List ℕ). buffer.len + length l) (sym c.copy-from-slice.ensures.after) in
+    let now = c.copy_from_slice.new.self in
+    let size : buffer.len + length c.args.more.now ≡ buffer.len + length now = ap (λ (l : List ℕ). buffer.len + length l) (sym c.copy_from_slice.ensures.after) in
     take-put_mid buffer.len (buffer.len + length c.args.more.now - buffer.len) buffer.bytes now (buffer.len + length c.args.more.now) size (omega arith)
-    ∙ ap (λ (l : List ℕ). take buffer.len buffer.bytes ++ l) c.copy-from-slice.ensures.after
+    ∙ ap (λ (l : List ℕ). take buffer.len buffer.bytes ++ l) c.copy_from_slice.ensures.after

@@ -3,16 +3,16 @@ use Rattle.std.proofs.lemmas.Slice.{take-put_mid}
 use Rattle.std.proofs.lemmas.List.{places}
 use Rattle.runner.proofs.line.Line.push_all.Goals as goal
 
-pub invariant-of-self : goal.invariant-of-self
-invariant-of-self c = (search (rules, places), (c.requires, tt))
+pub invariant_of-self : goal.invariant_of-self
+invariant_of-self c = (search (rules, places), (c.requires, tt))
 
 pub returns : goal.returns
 returns c =
     let line = c.args.self.now in
-    let now = c.copy-from-slice.new.self in
-    let size : line.len + length c.args.more.now ≡ line.len + length now = ap (λ (l : List ℕ). line.len + length l) (sym c.copy-from-slice.ensures.after) in
+    let now = c.copy_from_slice.new.self in
+    let size : line.len + length c.args.more.now ≡ line.len + length now = ap (λ (l : List ℕ). line.len + length l) (sym c.copy_from_slice.ensures.after) in
     record {
       bytes = take-put_mid line.len (line.len + length c.args.more.now - line.len) line.bytes now (line.len + length c.args.more.now) size (omega arith)
-          ∙ ap (λ (l : List ℕ). take line.len line.bytes ++ l) c.copy-from-slice.ensures.after;
+          ∙ ap (λ (l : List ℕ). take line.len line.bytes ++ l) c.copy_from_slice.ensures.after;
       len = refl;
     }

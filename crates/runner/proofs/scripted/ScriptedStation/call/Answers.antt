@@ -11,7 +11,7 @@ returns g c =
     let e = c.ask-count.ensures in
     let told = front_part c.ask-count.result.told c.ask-count.new.sheet ∙ e.told in
     record {
-      progress = same_progress e.station (c.set-back.ensures ∙ ap (λ (l : List Event). set_back_by (positions_in c.args.self.now.positions) l) told);
+      progress = same_progress e.station (c.set_back.ensures ∙ ap (λ (l : List Event). set_back_by (positions_in c.args.self.now.positions) l) told);
       told = e.told;
       within = e.within;
     }

@@ -21,7 +21,7 @@ returns g c =
     ∙ ap (λ (p : Position). passed m (asked (station_in g.R.Roll.meaning g.R.Roll.lever c.args.self.now.station) (Macro m)).factor p) c.at-position.ensures in
     let placed = c.put.ensures ∙ ap (λ (p : Position). put ps t p) moved in
     record {
-      progress = same_progress e.station (c.set-back.ensures ∙ ap (λ (l : List Event). set_back_by (positions_in c.put.new.self) l) told ∙ ap (λ (f : ℕ → Position). set_back_by f events) placed);
+      progress = same_progress e.station (c.set_back.ensures ∙ ap (λ (l : List Event). set_back_by (positions_in c.put.new.self) l) told ∙ ap (λ (f : ℕ → Position). set_back_by f events) placed);
       told = e.told;
       within = e.within;
     }

@@ -5,4 +5,4 @@ use Rattle.runner.proofs.scripted.ScriptedStation.power_up.Goals as goal
 
 pub returns : goal.returns
 unfolding powered_up station_in
-returns g c = same_progress c.power-up.ensures.state c.new-2.ensures
+returns g c = same_progress c.power_up.ensures.state c.new-2.ensures
