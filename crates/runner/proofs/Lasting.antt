@@ -1,5 +1,5 @@
 -- Every step of a book is one or two calls, so a history goes on over it.
-use Rattle.std.proofs.Common.{◌≡◌, ℕ, zero, suc, Bool, true, false, cond, eqb, List, [], ◌∷◌, ◌++◌, length, Some, None, Option, sym, refl, ap, ◌∙◌, subst, append_assoc}
+use Rattle.std.proofs.Common.{◌≡◌, ℕ, zero, suc, Bool, true, false, cond, eqb, List, [], ◌++◌, length, Some, None, Option, sym, refl, ap, ◌∙◌, subst, append_assoc}
 use Rattle.std.proofs.lemmas.List.{append-nil}
 use Rattle.sheet.specs.declared.event.Event.{Event}
 use Rattle.book.specs.Verdict.{told, clean}
@@ -7,10 +7,9 @@ use Rattle.book.proofs.Clean.{registered_range}
 use Rattle.rules.specs.declared.call.Call.{Call}
 use Rattle.rules.specs.declared.call.Call.TheVariants.{Macro as Issues, Tick}
 use Rattle.rules.specs.declared.call.Macro.TheVariants.{Exit}
-use Rattle.rules.specs.State.{Setup, State, Station}
+use Rattle.rules.specs.State.{Setup, Station}
 use Rattle.rules.specs.Calls.{called}
-use Rattle.laws.specs.Histories.{Seen, History, History.powered, History.then, Reached, Reached.on, Reached.by, begun, events}
-use Rattle.laws.specs.Laws.{Laws, Numbered}
+use Rattle.laws.specs.Histories.{Seen, History, History.powered, History.then, Reached, Reached.on, Reached.by, events}
 use Rattle.laws.proofs.Always.{always}
 use Rattle.station.specs.Views.{setup_in}
 use Rattle.runner.specs.declared.instruction.Instruction.{Instruction}
@@ -18,7 +17,7 @@ use Rattle.runner.specs.declared.instruction.Instruction.TheVariants.{Macro as M
 use Rattle.runner.specs.declared.positions.Position.{Position}
 use Rattle.runner.specs.Scripts.{Progress, Outcome, asked, calling, does, nothing, acted, processor, instruction_of, row_done, tick_done, stepped}
 use Rattle.runner.specs.Listing.{powered_up, progress_after}
-use Rattle.runner.specs.Lives.{told_by, Lived, Lives}
+use Rattle.runner.specs.Lives.{told_by, Lived}
 
 -- a history h goes on over what was done, o
 record Onward (b : Setup) (h : History) (o : Outcome) : Type 0 where

@@ -1,5 +1,5 @@
 -- The listing, step by step and as a whole.
-use Rattle.std.proofs.Common.{◌≡◌, ℕ, suc, ◌+◌, Bool, List, [], ◌++◌, Some, None, Option, sym, refl, ap, ◌∙◌, add-one}
+use Rattle.std.proofs.Common.{◌≡◌, ℕ, ◌+◌, Bool, List, [], ◌++◌, Some, None, Option, sym, refl, ap, ◌∙◌, add-one}
 use Rattle.book.specs.declared.faults.Fault.{Fault}
 use Rattle.book.specs.Verdict.{told}
 use Rattle.book.specs.Reader.{steps_in, or_blank, opened}

@@ -1,5 +1,5 @@
 -- The rows of a script, and what is done at one.
-use Rattle.std.proofs.Common.{◌≡◌, ℕ, zero, suc, ◌+◌, ◌^◌, ◌<◌, ◌≤◌, Bool, true, false, cond, ◌||◌, eqb, ltb, List, [], ◌∷◌, length, get_or, Some, None, Option, sym, refl, ap, ◌∙◌, arith, Bor}
+use Rattle.std.proofs.Common.{◌≡◌, ℕ, zero, suc, ◌^◌, ◌<◌, ◌≤◌, Bool, true, false, cond, ◌||◌, ltb, List, [], ◌∷◌, get_or, Some, None, Option, sym, refl, ap, ◌∙◌, arith, Bor}
 use Rattle.std.proofs.lemmas.Bool.{both_ways, or_parts, ltb-false, eq-eqb, ne_eqb}
 use Rattle.book.specs.declared.faults.Fault.{Fault}
 use Rattle.book.specs.declared.faults.Cause.TheVariants.{Size}
@@ -13,7 +13,7 @@ use Rattle.rules.specs.State.{Station}
 use Rattle.runner.specs.declared.instruction.Instruction.{Instruction}
 use Rattle.runner.specs.declared.positions.Position.{Position}
 use Rattle.runner.specs.Instructions.{decoded}
-use Rattle.runner.specs.Scripts.{Progress, Outcome, instruction_in, instruction_of, processor, does, nothing, acted, row_done}
+use Rattle.runner.specs.Scripts.{Progress, instruction_in, instruction_of, processor, does, nothing, acted, row_done}
 
 passed_by : (z : Bool) (f : Fault) (o : Option Fault) → clean (cond z (Some f) o) ≡ true → (z ≡ false) × (clean o ≡ true)
 passed_by true f o e = absurd (both_ways false refl e)

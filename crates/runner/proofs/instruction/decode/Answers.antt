@@ -1,4 +1,4 @@
-use Rattle.std.proofs.Common.{◌≡◌, ℕ, List, get_or, Some, Option, sym, ap, ◌∙◌}
+use Rattle.std.proofs.Common.{◌≡◌, ℕ, List, get_or, Some, Option, ap, ◌∙◌}
 use Rattle.std.specs.Option.{option_map}
 use Rattle.book.specs.declared.letters.Letter.{Letter}
 use Rattle.book.specs.Letters.{letter_of}

@@ -1,4 +1,4 @@
-use Rattle.std.proofs.Common.{◌≡◌, ◌-◌, take, ap, ◌∙◌}
+use Rattle.std.proofs.Common.{◌-◌, take, ap, ◌∙◌}
 use Rattle.runner.specs.Scripts.{Progress, row_done, tick_done, stepped}
 use Rattle.runner.specs.Views.{progress_in}
 use Rattle.runner.specs.Sinks.{sent}

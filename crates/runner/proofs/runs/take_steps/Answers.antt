@@ -3,7 +3,6 @@ use Rattle.book.specs.Reader.{steps_in}
 use Rattle.runner.specs.Lines.{lines_of_events}
 use Rattle.runner.specs.Scripts.{Progress, stepped}
 use Rattle.runner.specs.Listing.{progress_after, step_lines}
-use Rattle.runner.specs.Views.{progress_in}
 use Rattle.runner.specs.Sinks.{sent}
 use Rattle.runner.proofs.Sent.{took_two}
 use Rattle.runner.proofs.Listed.{after_none, after_more, lines_none, lines_after}

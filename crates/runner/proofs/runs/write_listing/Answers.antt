@@ -1,4 +1,4 @@
-use Rattle.std.proofs.Common.{◌≡◌, sym, ap, ◌∙◌}
+use Rattle.std.proofs.Common.{sym, ap, ◌∙◌}
 use Rattle.runner.specs.Sinks.{sent}
 use Rattle.runner.proofs.Listed.{refused_listing, clean_listing}
 use Rattle.runner.proofs.runs.write_listing.Goals as goal

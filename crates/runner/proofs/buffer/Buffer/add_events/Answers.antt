@@ -1,4 +1,4 @@
-use Rattle.std.proofs.Common.{ℕ, ◌<◌, ◌≤◌, length, arith}
+use Rattle.std.proofs.Common.{◌<◌, ◌≤◌, length, arith}
 use Rattle.runner.specs.Lines.{bytes_of}
 use Rattle.runner.specs.Sinks.{sent}
 use Rattle.runner.proofs.Sent.{events_more, events_all}

@@ -1,10 +1,10 @@
-use Rattle.std.proofs.Common.{◌≡◌, ℕ, ◌+◌, ◌-◌, List, ◌++◌, length, take, sym, refl, ap, ◌∙◌, arith, rules}
+use Rattle.std.proofs.Common.{◌≡◌, ℕ, ◌+◌, ◌-◌, List, ◌++◌, length, take, sym, ap, ◌∙◌, arith, rules}
 use Rattle.std.proofs.lemmas.Slice.{take-put_mid}
 use Rattle.std.proofs.lemmas.List.{places}
 use Rattle.runner.proofs.buffer.Buffer.push_all.Goals as goal
 
 pub invariant_of-self : goal.invariant_of-self
-invariant_of-self c = (search (rules, places), (c.requires, tt))
+invariant_of-self c = record { sized = search (rules, places); fits = c.requires }
 
 pub returns : goal.returns
 returns c =

@@ -4,7 +4,7 @@ use Rattle.std.proofs.lemmas.List.{places}
 use Rattle.runner.proofs.line.Line.push_all.Goals as goal
 
 pub invariant_of-self : goal.invariant_of-self
-invariant_of-self c = (search (rules, places), (c.requires, tt))
+invariant_of-self c = record { sized = search (rules, places); fits = c.requires }
 
 pub returns : goal.returns
 returns c =

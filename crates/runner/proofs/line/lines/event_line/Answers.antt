@@ -1,4 +1,4 @@
-use Rattle.std.proofs.Common.{◌≡◌, ℕ, List, [], ◌∷◌, ◌++◌, length, codes, decimal, refl, ap, ◌∙◌, append_assoc, arith}
+use Rattle.std.proofs.Common.{◌≡◌, ℕ, List, ◌++◌, length, decimal, refl, ap, ◌∙◌, append_assoc, arith}
 use Rattle.runner.specs.Lines.{bytes_of, space, feed, line_of_event}
 use Rattle.runner.proofs.Numbers.{two_more, three_pieces, at_most_twenty, short_word}
 use Rattle.sheet.specs.Events.{word_of}

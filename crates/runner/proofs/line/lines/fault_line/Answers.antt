@@ -1,4 +1,4 @@
-use Rattle.std.proofs.Common.{◌≡◌, ℕ, List, [], ◌∷◌, ◌++◌, length, codes, decimal, refl, ap, ◌∙◌, append_assoc, arith}
+use Rattle.std.proofs.Common.{ℕ, List, ◌++◌, codes, decimal, ap, ◌∙◌, append_assoc, arith}
 use Rattle.runner.specs.Lines.{bytes_of, space, feed, line_of_fault}
 use Rattle.runner.proofs.Numbers.{two_more, three_pieces, at_most_twenty}
 use Rattle.book.specs.Faults.{number_of}

@@ -1,6 +1,6 @@
-use Rattle.std.proofs.Common.{◌≡◌, ℕ, List, [], ◌∷◌, ◌++◌, length, codes, decimal, refl, ap, ◌∙◌, append_assoc, arith}
+use Rattle.std.proofs.Common.{ℕ, List, ◌++◌, codes, decimal, ap, ◌∙◌, arith}
 use Rattle.runner.specs.Lines.{bytes_of, space, feed, line_of_left}
-use Rattle.runner.proofs.Numbers.{two_more, three_pieces, at_most_twenty}
+use Rattle.runner.proofs.Numbers.{three_pieces, at_most_twenty}
 use Rattle.runner.proofs.line.lines.left_line.Goals as goal
 
 pub push_number-requires : goal.push_number-requires

@@ -1,7 +1,6 @@
-use Rattle.std.proofs.Common.{◌≡◌, ℕ, ◌<◌, ◌≤◌, length, get_or, sym, ap, ◌∙◌, arith}
+use Rattle.std.proofs.Common.{◌<◌, ◌≤◌, length, get_or, sym, ap, ◌∙◌, arith}
 use Rattle.sheet.specs.declared.event.Kind.TheVariants.{Accepted}
 use Rattle.sheet.specs.Events.{event}
-use Rattle.runner.specs.declared.positions.Positions.{Positions}
 use Rattle.runner.specs.Views.{positions_in}
 use Rattle.runner.proofs.Moves.{back_then, back_else, back_more, back_all}
 use Rattle.runner.proofs.positions.Positions.set_back.Goals as goal

@@ -1,4 +1,4 @@
-use Rattle.std.proofs.Common.{◌≡◌, List, ap, ◌∙◌}
+use Rattle.std.proofs.Common.{List, ap, ◌∙◌}
 use Rattle.sheet.specs.declared.event.Event.{Event}
 use Rattle.runner.specs.Scripts.{set_back_by}
 use Rattle.runner.specs.Views.{positions_in}

@@ -1,4 +1,4 @@
-use Rattle.std.proofs.Common.{◌≡◌, ℕ, Some, None, sym, refl, ap, ◌∙◌, arith}
+use Rattle.std.proofs.Common.{◌≡◌, Some, None, refl, ap, ◌∙◌, arith}
 use Rattle.runner.specs.declared.positions.Position.{Position}
 use Rattle.runner.specs.Scripts.{Progress, Outcome, instruction_of}
 use Rattle.runner.specs.Views.{station_in, progress_in}

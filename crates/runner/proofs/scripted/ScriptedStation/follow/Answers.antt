@@ -1,4 +1,4 @@
-use Rattle.std.proofs.Common.{◌≡◌, Some, sym, ap, ◌∙◌, arith}
+use Rattle.std.proofs.Common.{Some, sym, ap, ◌∙◌, arith}
 use Rattle.runner.specs.declared.instruction.Instruction.{Instruction}
 use Rattle.runner.specs.Scripts.{Outcome, does}
 use Rattle.runner.specs.Views.{progress_in}

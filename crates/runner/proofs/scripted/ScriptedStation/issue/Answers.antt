@@ -1,4 +1,4 @@
-use Rattle.std.proofs.Common.{◌≡◌, ℕ, List, ap, ◌∙◌}
+use Rattle.std.proofs.Common.{ℕ, List, ap, ◌∙◌}
 use Rattle.sheet.specs.declared.event.Event.{Event}
 use Rattle.roll.specs.Tables.{put}
 use Rattle.rules.specs.declared.call.Call.TheVariants.{Macro}

@@ -1,4 +1,4 @@
-use Rattle.std.proofs.Common.{◌≡◌, ◌∙◌}
+use Rattle.std.proofs.Common.{◌∙◌}
 use Rattle.station.specs.Views.{seen}
 use Rattle.runner.specs.Views.{station_in}
 use Rattle.runner.proofs.Asks.{asked_station, asked_told, asked_factor, asked_within}
