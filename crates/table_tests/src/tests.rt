@@ -80,7 +80,7 @@ fn told_in_order(rt: &impl Abort, sheet: &[Event]) {
         assert!(rt; task < 127);
         task += 1;
         assert_eq!(rt; event.task, task);
-        assert!(rt; event.kind.word() == b"accepted");
+        assert!(rt; event.kind.word() == b"accepted".as_slice());
     }
 }
 
