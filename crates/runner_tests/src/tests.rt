@@ -4,8 +4,9 @@
 use lever::Lever;
 use packed::Packed;
 use runner::{Recorder, run};
-use std::alloc::{AllocError, Global};
-use std::test::{Fail, assert};
+use std::alloc::{AllocError, AllocGlobal, Global};
+use std::process::Abort;
+use std::test::Fail;
 
 mod edges;
 mod letters;
@@ -33,16 +34,16 @@ fn hex(heap: Global, text: &[u8]) -> Result<Vec<u8>, AllocError> {
 }
 
 /// The listing of these bytes is these lines.
-fn shows(rt: &HostRuntime, bytes: &[u8], lines: &[u8]) -> Result<(), Fail> {
+fn shows(rt: &(impl Abort + AllocGlobal), bytes: &[u8], lines: &[u8]) -> Result<(), Fail> {
     let mut recorder = Recorder {
         bytes: Vec::new(rt.alloc()),
     };
     run(Lever::new(Packed::new()), bytes, &mut recorder)?;
-    assert!(recorder.bytes.as_slice() == lines);
+    assert!(rt; recorder.bytes.as_slice() == lines);
     Ok(())
 }
 
 /// The same of the bytes that the digits name.
-fn lists(rt: &HostRuntime, digits: &[u8], lines: &[u8]) -> Result<(), Fail> {
+fn lists(rt: &(impl Abort + AllocGlobal), digits: &[u8], lines: &[u8]) -> Result<(), Fail> {
     shows(rt, hex(rt.alloc(), digits)?.as_slice(), lines)
 }
