@@ -1,4 +1,4 @@
-use Rattle.std.proofs.Common.{sym, ◌∙◌}
+use Rattle.std.proofs.Common.{◌≡◌, true, sym, ◌∙◌, rules}
 use Rattle.tasks.specs.Views.{view}
 use Rattle.tasks.proofs.Fires.{start_taken}
 use Rattle.tasks.proofs.task_table.starts.TaskTableTarget.fire.Goals as goal
@@ -8,7 +8,8 @@ returns-else-not-has_room g c =
     let t = c.in-Start.task in
     let x = c.in-Start.factor in
     let s = view g.R.Roll.meaning c.args.self.now in
-    let h = start_taken s c.args.firing t x c.in-Start.is (sym c.if-not-is_released.ensures) (sym c.if-not-has_room.ensures) in
+    let released : s.released t ≡ true = search rules in
+    let h = start_taken s c.args.firing t x c.in-Start.is released (sym c.if-not-has_room.ensures) in
     record {
       state = c.accept_with.ensures ∙ h.0;
       event = h.1;
