@@ -1,7 +1,7 @@
 // The tests that every roll makes of what it is handed, and the form of its answers.
 ghost use Rattle.std.specs.Prelude.{◌≡◌};
 ghost use Rattle.roll.specs.Ranges.{task?, level?};
-ghost use Rattle.roll.specs.Model.{verdict as verdictOf};
+ghost use Rattle.roll.specs.Model.{verdict as verdict_of};
 
 use crate::entry::Refused;
 
@@ -21,7 +21,7 @@ pub fn is_level(number: u8) -> bool
 
 // The answer of a function that did what it was asked, or did nothing.
 pub fn verdict(done: bool) -> Result<(), Refused>
-    ensures { result ≡ verdictOf done }
+    ensures { result ≡ verdict_of done }
 {
     if done { Ok(()) } else { Err(Refused) }
 }

@@ -2,7 +2,7 @@
 ghost use Rattle.std.specs.Prelude.{◌≡◌, ◌+◌, ◌<◌, ◌≤◌, true, false, ◌&&◌, [], ◌∷◌, ◌++◌, length, if◌then◌else◌, nat_lt};
 ghost use Rattle.roll.specs.Ranges.{task?, level?};
 ghost use Rattle.roll.specs.Entries.{awake, count_of, ended, marking, levelled};
-ghost use Rattle.roll.specs.Model.{empty, first_in, may_add, after_add, verdict as verdictOf};
+ghost use Rattle.roll.specs.Model.{empty, first_in, may_add, after_add, verdict as verdict_of};
 ghost use Rattle.stamped.specs.Numbers.{renumbered};
 ghost use Rattle.stamped.specs.Meaning.{meaning_of, stamp_for};
 ghost use Rattle.std.proofs.lemmas.Bool.{false≢true};
@@ -152,7 +152,7 @@ impl Roll for Stamped {
 
     // As every roll does, and `next` says when it renumbers.
     fn add(&mut self, task: u8, level: u8) -> Result<(), Refused>
-        ensures answer { result ≡ verdictOf (may_add task level (meaning_of self.old)) }
+        ensures answer { result ≡ verdict_of (may_add task level (meaning_of self.old)) }
         ensures after { meaning_of self.new ≡ after_add task level (meaning_of self.old) }
         ensures next { self.new.next ≡ (if may_add task level (meaning_of self.old) then stamp_for self.old + 1 else self.old.next) }
     {

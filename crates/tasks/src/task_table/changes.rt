@@ -1,7 +1,7 @@
 //! What a macro changes of a task beside its starts: mode, level, hold and factors.
 
 ghost use Rattle.std.specs.Prelude.{◌≡◌, ◌≤◌, true, false, not, length, if◌then◌else◌, Some, None, slice_index_or};
-ghost use Rattle.rules.specs.Effects.{releasing, levelling, holding, without, smallest_of, smallest as smallestIn};
+ghost use Rattle.rules.specs.Effects.{releasing, levelling, holding, without, smallest_of, smallest as smallest_in};
 ghost use Rattle.tasks.specs.Views.{view};
 
 use crate::task_table::TaskTable;
@@ -71,7 +71,7 @@ impl<R: Roll> TaskTable<R> {
 // The smallest factor of a set.
 fn smallest(set: &[bool; 17]) -> Option<u8>
     requires { length set.now ≡ 17 }
-    ensures value { result ≡ smallestIn 17 0 (λ x. slice_index_or set.now x false) }
+    ensures value { result ≡ smallest_in 17 0 (λ x. slice_index_or set.now x false) }
     ensures within { elim result [ None ↦ Unit {0} | Some x ↦ x ≤ 16 ] }
 {
     for factor in 0..17u8 {
