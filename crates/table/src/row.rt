@@ -3,7 +3,7 @@
 
 ghost use Rattle.std.specs.Prelude.{◌≡◌, ◌≤◌, false, not, [], ◌∷◌, ◌++◌, length, take, drop, if◌then◌else◌, filter, nat_lt};
 ghost use Rattle.sheet.specs.Sheets.{written};
-ghost use Rattle.table.specs.Rows.{entries, lefts, listed, firings, all_fired, all_told};
+ghost use Rattle.table.specs.Rows.{entries, lefts, listed, firings, all_fired, all_told, added};
 
 use crate::entry::{Beaten, TableEntry};
 use crate::firing::Target;
@@ -113,6 +113,7 @@ fn compact<E: TableEntry>(places: &mut [E::Place]) -> usize
 pub fn add<E: TableEntry>(places: &mut [E::Place], entry: E) -> bool
     ensures room { result ≡ nat_lt (length (entries E.TableEntry.live places.old)) (length places.old) }
     ensures entries { entries E.TableEntry.live places.new ≡ (if result then entries E.TableEntry.live places.old ++ (E.TableEntry.place entry ∷ []) else entries E.TableEntry.live places.old) }
+    ensures taken { entries E.TableEntry.live places.new ≡ added (length places.old) (entries E.TableEntry.live places.old) (E.TableEntry.place entry) }
 {
     let count = compact::<E>(places);
     if count < places.len() {
