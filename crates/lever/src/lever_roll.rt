@@ -1,4 +1,4 @@
-ghost use Rattle.std.specs.Prelude.{◌≡◌, true};
+ghost use Rattle.std.specs.Prelude.{◌≡◌, refl, true};
 ghost use Rattle.roll.specs.Model.{empty};
 ghost use Rattle.lever.specs.Meaning.{over};
 ghost use Rattle.lever.specs.Holding.{over_sound};
@@ -7,9 +7,6 @@ ghost use Rattle.std.proofs.Common.{rules};
 use crate::holds::Holds;
 use crate::search;
 use roll::{Refused, Roll, clear_all, is_task};
-
-// No proof sees the constant of a generic impl, so that `LEVER` and `has_lever` take it from here.
-const PRESENT: bool = true;
 
 // A roll with a lever, over the roll `below`. Where the roll below has a lever itself, holds are
 // passed on to it; where it has none, they are kept in the set `own`.
@@ -37,15 +34,15 @@ impl<R: Roll> Roll for Lever<R> {
 
     ghost lever = { true };
 
-    const LEVER: bool = PRESENT;
+    ghost LEVER = { true };
+
+    const LEVER: bool = true;
 
     ghost sound = { λ s. over_sound R.Roll.lever (R.Roll.meaning s.below) s.own (R.Roll.sound s.below) };
 
-    ghost free = { Prim.search rules };
+    ghost tied = { refl };
 
-    fn has_lever() -> bool {
-        PRESENT
-    }
+    ghost free = { Prim.search rules };
 
     fn add(&mut self, task: u8, level: u8) -> Result<(), Refused> {
         self.below.add(task, level)
@@ -73,7 +70,7 @@ impl<R: Roll> Roll for Lever<R> {
 
     // A roll with a lever looks past the held tasks itself.
     fn first(&mut self) -> Option<u8> {
-        if R::has_lever() {
+        if R::LEVER {
             return self.below.first();
         }
         search::first(&mut self.below, &self.own)
@@ -84,7 +81,7 @@ impl<R: Roll> Roll for Lever<R> {
     }
 
     fn hold(&mut self, task: u8) -> Result<(), Refused> {
-        if R::has_lever() {
+        if R::LEVER {
             return self.below.hold(task);
         }
         if !is_task(task) || self.own.has(task) {
@@ -95,7 +92,7 @@ impl<R: Roll> Roll for Lever<R> {
     }
 
     fn unhold(&mut self, task: u8) -> Result<(), Refused> {
-        if R::has_lever() {
+        if R::LEVER {
             return self.below.unhold(task);
         }
         if !is_task(task) || !self.own.has(task) {

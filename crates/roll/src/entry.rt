@@ -1,5 +1,5 @@
 // An entry of a roll: one start of a task that waits for the processor or has it.
-#[derive(Clone, Copy)]
+#[derive(Clone, Copy, PartialEq, Eq, Debug, Default)]
 pub struct Entry {
     pub task: u8,
     pub level: u8,
@@ -7,5 +7,5 @@ pub struct Entry {
 }
 
 // What a roll answers where it does nothing.
-#[derive(Clone, Copy)]
+#[derive(Clone, Copy, PartialEq, Eq, Debug)]
 pub struct Refused;

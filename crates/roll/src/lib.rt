@@ -18,13 +18,12 @@ pub use ranges::{is_level, is_task, verdict};
 pub trait Roll {
     ghost meaning: { Self → Model };
 
-    ghost lever: { Bool };
-
-    // Whether there is a lever. A clause cannot speak of it, so has_lever ties it to `lever`.
+    // Whether there is a lever: for code, and under both names for clauses, which call it `lever`.
     const LEVER: bool;
 
-    fn has_lever() -> bool
-        ensures { result ≡ lever };
+    ghost LEVER: { Bool };
+
+    ghost lever: { Bool };
 
     // Puts an awake entry at the end. Refused where the task has two.
     fn add(&mut self, task: u8, level: u8) -> Result<(), Refused>
@@ -36,10 +35,15 @@ pub trait Roll {
         ensures answer { result ≡ verdict (has_in task (meaning self.old)) }
         ensures after { meaning self.new ≡ after_end task (meaning self.old) };
 
-    // Takes all entries of the task away, and says how many there were.
+    // Takes all entries of the task away, and says how many there were. No task has more than two.
     fn clear(&mut self, task: u8) -> u8
         ensures answer { result ≡ count_in task (meaning self.old) }
-        ensures after { meaning self.new ≡ after_clear task (meaning self.old) };
+        ensures after { meaning self.new ≡ after_clear task (meaning self.old) }
+    {
+        let older = u8::from(self.end(task).is_ok());
+        let younger = u8::from(self.end(task).is_ok());
+        older + younger
+    }
 
     // Marks the task's oldest entry asleep. Refused where there is none.
     fn sleep(&mut self, task: u8) -> Result<(), Refused>
@@ -76,6 +80,8 @@ pub trait Roll {
         ensures after { meaning self.new ≡ after_unhold lever task (meaning self.old) };
 
     ghost sound: { (s : Self) → Sound (meaning s) };
+
+    ghost tied: { lever ≡ LEVER };
 
     ghost free: { (s : Self) → lever ≡ false → (meaning s).held ≡ none };
 }

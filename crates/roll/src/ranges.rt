@@ -9,7 +9,7 @@ use crate::entry::Refused;
 pub fn is_task(number: u8) -> bool
     ensures { result ≡ task? number }
 {
-    0 < number && number < 128
+    (1..=127).contains(&number)
 }
 
 // Whether the number is a level's.
@@ -23,5 +23,5 @@ pub fn is_level(number: u8) -> bool
 pub fn verdict(done: bool) -> Result<(), Refused>
     ensures { result ≡ verdict_of done }
 {
-    if done { Ok(()) } else { Err(Refused) }
+    done.then_some(()).ok_or(Refused)
 }

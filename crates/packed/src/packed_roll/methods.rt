@@ -1,5 +1,5 @@
 // What a packed roll does.
-ghost use Rattle.std.specs.Prelude.{◌≡◌, false, nat_lt};
+ghost use Rattle.std.specs.Prelude.{◌≡◌, refl, false, nat_lt};
 ghost use Rattle.roll.specs.Entries.{count_of, ended, marking};
 ghost use Rattle.roll.specs.Model.{empty};
 ghost use Rattle.packed.specs.Rows.{row};
@@ -63,15 +63,15 @@ impl Roll for Packed {
 
     ghost lever = { false };
 
+    ghost LEVER = { false };
+
     const LEVER: bool = false;
 
     ghost sound = { first_of (Prim.search rules, Prim.grind (arith, Self.row.coded.inj)) };
 
-    ghost free = { first_of (Prim.search rules, Prim.grind (arith, Self.row.coded.inj)) };
+    ghost tied = { refl };
 
-    fn has_lever() -> bool {
-        Self::LEVER
-    }
+    ghost free = { first_of (Prim.search rules, Prim.grind (arith, Self.row.coded.inj)) };
 
     fn add(&mut self, task: u8, level: u8) -> Result<(), Refused> {
         if !is_task(task) || !is_level(level) || self.tally(task) >= 2 {

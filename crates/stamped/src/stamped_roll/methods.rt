@@ -1,5 +1,5 @@
 // What a stamped roll does.
-ghost use Rattle.std.specs.Prelude.{◌≡◌, ◌+◌, ◌<◌, ◌≤◌, true, false, ◌&&◌, [], ◌∷◌, ◌++◌, length, if◌then◌else◌, nat_lt};
+ghost use Rattle.std.specs.Prelude.{◌≡◌, refl, ◌+◌, ◌<◌, ◌≤◌, true, false, ◌&&◌, [], ◌∷◌, ◌++◌, length, if◌then◌else◌, nat_lt};
 ghost use Rattle.roll.specs.Ranges.{task?, level?};
 ghost use Rattle.roll.specs.Entries.{awake, count_of, ended, marking, levelled};
 ghost use Rattle.roll.specs.Model.{empty, first_in, may_add, after_add, verdict as verdict_of};
@@ -140,15 +140,15 @@ impl Roll for Stamped {
 
     ghost lever = { false };
 
+    ghost LEVER = { false };
+
     const LEVER: bool = false;
 
     ghost sound = { λ s. (sound_listed s.slots s.next s.whole (orderly_of s), λ t p. absurd (false≢true p)) };
 
-    ghost free = { first_of (Prim.search rules, Prim.grind (arith, Self.row.coded.inj)) };
+    ghost tied = { refl };
 
-    fn has_lever() -> bool {
-        Self::LEVER
-    }
+    ghost free = { first_of (Prim.search rules, Prim.grind (arith, Self.row.coded.inj)) };
 
     // As every roll does, and `next` says when it renumbers.
     fn add(&mut self, task: u8, level: u8) -> Result<(), Refused>
