@@ -4,6 +4,7 @@ ghost use Rattle.std.specs.Prelude.{◌≡◌, ◌≤◌, length};
 use roll::Entry;
 
 // The first `len` items are the entries, oldest first; what stands behind them means nothing.
+// This is no ArrayVec, since a packed roll is Copy, and no ArrayVec is.
 #[derive(Clone, Copy)]
 pub struct Row {
     items: [Entry; 254],

@@ -1,22 +1,17 @@
 // What is found by going through the entries once.
-ghost use Rattle.std.specs.Prelude.{◌≡◌, ◌+◌, ◌<◌, true, length};
+ghost use Rattle.std.specs.Prelude.{◌≡◌, ◌<◌, true, position};
 ghost use Rattle.roll.specs.Tables.{none};
-ghost use Rattle.roll.specs.Entries.{count_of, levelled, all_good?};
+ghost use Rattle.roll.specs.Entries.{of?, count_of, levelled, all_good?};
 ghost use Rattle.roll.specs.Firsts.{first_of};
-ghost use Rattle.packed.specs.Scans.{place_of, taken as taken_of};
+ghost use Rattle.packed.specs.Scans.{taken as taken_of};
 
 use roll::Entry;
 
-// Where the oldest entry of the task stands; the length where it has none.
-pub(crate) fn place(es: &[Entry], task: u8) -> usize
-    ensures { result ≡ place_of task es.now }
+// Where the oldest entry of the task stands.
+pub(crate) fn place(es: &[Entry], task: u8) -> Option<usize>
+    ensures { result ≡ position (of? task) es.now }
 {
-    for (i, e) in es.iter().enumerate() {
-        if e.task == task {
-            return i;
-        }
-    }
-    es.len()
+    es.iter().position(|e| e.task == task)
 }
 
 // How many entries of the task there are.
@@ -24,13 +19,7 @@ pub(crate) fn tally(es: &[Entry], task: u8) -> u8
     requires { count_of task es.now < 256 }
     ensures { result ≡ count_of task es.now }
 {
-    let mut n = 0;
-    for e in es {
-        if e.task == task {
-            n += 1;
-        }
-    }
-    n
+    es.iter().filter(|e| e.task == task).count() as u8
 }
 
 // The task of the oldest entry with the best level, of the awake ones that are the oldest of their task.
@@ -47,10 +36,7 @@ pub(crate) fn first(es: &[Entry]) -> Option<u8>
             best = taken(best, *e);
         }
     }
-    match best {
-        Some(e) => Some(e.task),
-        None => None,
-    }
+    best.map(|e| e.task)
 }
 
 // The best so far, with one more entry.

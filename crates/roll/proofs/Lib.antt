@@ -5,3 +5,4 @@ pub mod Firsts
 pub mod Sleeps
 pub mod Tables
 pub mod Emptied
+pub mod Verdicts

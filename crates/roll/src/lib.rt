@@ -11,7 +11,7 @@ mod ranges;
 
 pub use clearing::clear_all;
 pub use entry::{Entry, Refused};
-pub use ranges::{is_level, is_task, verdict};
+pub use ranges::{in_range, is_level, is_task, verdict};
 
 // A roll is anything that keeps a list of entries, oldest first, and a set of held tasks, and
 // answers as below. A lever is what a roll needs to hold tasks; without one nobody is held.

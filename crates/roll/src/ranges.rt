@@ -1,7 +1,7 @@
 // The tests that every roll makes of what it is handed, and the form of its answers.
 ghost use Rattle.std.specs.Prelude.{◌≡◌};
 ghost use Rattle.roll.specs.Ranges.{task?, level?};
-ghost use Rattle.roll.specs.Model.{verdict as verdict_of};
+ghost use Rattle.roll.specs.Model.{may_level, verdict as verdict_of};
 
 use crate::entry::Refused;
 
@@ -24,4 +24,11 @@ pub fn verdict(done: bool) -> Result<(), Refused>
     ensures { result ≡ verdict_of done }
 {
     done.then_some(()).ok_or(Refused)
+}
+
+// Refused where the task or the level is out of range.
+pub fn in_range(task: u8, level: u8) -> Result<(), Refused>
+    ensures { result ≡ verdict_of (may_level task level) }
+{
+    verdict(is_task(task) && is_level(level))
 }

@@ -1,7 +1,7 @@
 // What a packed roll does.
-ghost use Rattle.std.specs.Prelude.{◌≡◌, refl, false, nat_lt};
-ghost use Rattle.roll.specs.Entries.{count_of, ended, marking};
-ghost use Rattle.roll.specs.Model.{empty};
+ghost use Rattle.std.specs.Prelude.{◌≡◌, refl, false};
+ghost use Rattle.roll.specs.Entries.{marking};
+ghost use Rattle.roll.specs.Model.{empty, has_in, verdict as verdict_of};
 ghost use Rattle.packed.specs.Rows.{row};
 ghost use Rattle.packed.specs.Meaning.{meaning_of};
 ghost use Rattle.std.proofs.Common.{rules, arith};
@@ -9,7 +9,7 @@ ghost use Rattle.std.proofs.Common.{rules, arith};
 use super::Packed;
 use crate::row::Row;
 use crate::scan;
-use roll::{Entry, Refused, Roll, is_level, is_task, verdict};
+use roll::{Entry, Refused, Roll, in_range, verdict};
 
 impl Packed {
     // A roll with no entry.
@@ -20,52 +20,25 @@ impl Packed {
         Packed { entries }
     }
 
-    // How many entries the task has.
-    fn tally(&self, task: u8) -> u8
-        ensures { result ≡ count_of task (row self.now.entries) }
-    {
-        scan::tally(self.entries.as_slice(), task)
-    }
-
-    // Sets the mark of the task's oldest entry, and says whether there is one.
-    fn mark(&mut self, task: u8, asleep: bool) -> bool
-        ensures answer { result ≡ nat_lt 0 (count_of task (row self.old.entries)) }
+    // Sets the mark of the task's oldest entry. Refused where there is none.
+    fn mark(&mut self, task: u8, asleep: bool) -> Result<(), Refused>
+        ensures answer { result ≡ verdict_of (has_in task (meaning_of self.old)) }
         ensures after { row self.new.entries ≡ marking asleep task (row self.old.entries) }
     {
-        let entries = self.entries.as_slice();
-        let i = scan::place(entries, task);
-        if i < entries.len() {
-            self.entries.mark(i, asleep);
-            true
-        } else {
-            false
-        }
-    }
-
-    // Takes the task's oldest entry away, and says whether there was one.
-    fn shorten(&mut self, task: u8) -> bool
-        ensures answer { result ≡ nat_lt 0 (count_of task (row self.old.entries)) }
-        ensures after { row self.new.entries ≡ ended task (row self.old.entries) }
-    {
-        let entries = self.entries.as_slice();
-        let i = scan::place(entries, task);
-        if i < entries.len() {
-            self.entries.remove(i);
-            true
-        } else {
-            false
-        }
+        let i = scan::place(self.entries.as_slice(), task).ok_or(Refused)?;
+        self.entries.mark(i, asleep);
+        Ok(())
     }
 }
 
 impl Roll for Packed {
     ghost meaning = { meaning_of };
 
-    ghost lever = { false };
+    const LEVER: bool = false;
 
     ghost LEVER = { false };
 
-    const LEVER: bool = false;
+    ghost lever = { false };
 
     ghost sound = { first_of (Prim.search rules, Prim.grind (arith, Self.row.coded.inj)) };
 
@@ -74,9 +47,8 @@ impl Roll for Packed {
     ghost free = { first_of (Prim.search rules, Prim.grind (arith, Self.row.coded.inj)) };
 
     fn add(&mut self, task: u8, level: u8) -> Result<(), Refused> {
-        if !is_task(task) || !is_level(level) || self.tally(task) >= 2 {
-            return Err(Refused);
-        }
+        in_range(task, level)?;
+        verdict(self.count(task) < 2)?;
         self.entries.push(Entry {
             task,
             level,
@@ -86,28 +58,21 @@ impl Roll for Packed {
     }
 
     fn end(&mut self, task: u8) -> Result<(), Refused> {
-        verdict(self.shorten(task))
-    }
-
-    // No task has more than two entries.
-    fn clear(&mut self, task: u8) -> u8 {
-        let one = self.shorten(task);
-        let two = self.shorten(task);
-        one as u8 + two as u8
+        let i = scan::place(self.entries.as_slice(), task).ok_or(Refused)?;
+        self.entries.remove(i);
+        Ok(())
     }
 
     fn sleep(&mut self, task: u8) -> Result<(), Refused> {
-        verdict(self.mark(task, true))
+        self.mark(task, true)
     }
 
     fn rouse(&mut self, task: u8) -> Result<(), Refused> {
-        verdict(self.mark(task, false))
+        self.mark(task, false)
     }
 
     fn set_level(&mut self, task: u8, level: u8) -> Result<(), Refused> {
-        if !is_task(task) || !is_level(level) {
-            return Err(Refused);
-        }
+        in_range(task, level)?;
         self.entries.set_level(task, level);
         Ok(())
     }
@@ -117,7 +82,7 @@ impl Roll for Packed {
     }
 
     fn count(&self, task: u8) -> u8 {
-        self.tally(task)
+        scan::tally(self.entries.as_slice(), task)
     }
 
     fn hold(&mut self, task: u8) -> Result<(), Refused> {

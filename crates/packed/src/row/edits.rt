@@ -13,11 +13,7 @@ impl Row {
         ensures { row result ≡ [] }
     {
         Row {
-            items: [Entry {
-                task: 0,
-                level: 0,
-                asleep: false,
-            }; 254],
+            items: [Entry::default(); 254],
             len: 0,
         }
     }
@@ -50,14 +46,8 @@ impl Row {
         requires { i < length (row self.old) }
         ensures { row self.new ≡ remove (row self.old) i }
     {
-        let len = self.len;
-        let mut j = i;
-        while j + 1 < len {
-            let e = self.items[j + 1];
-            self.items[j] = e;
-            j += 1;
-        }
-        self.len = len - 1;
+        self.items[i..self.len].rotate_left(1);
+        self.len -= 1;
     }
 
     // Sets the level of all entries of the task.

@@ -1,4 +1,4 @@
-use Rattle.std.proofs.Common.{◌≡◌, ℕ, ◌<◌, ◌≤◌, Bool, true, false, List, length, get_or, drop, replicate, None, Option, sym, ap, ◌∙◌, arith}
+use Rattle.std.proofs.Common.{◌≡◌, ℕ, ◌<◌, ◌≤◌, Bool, true, false, List, length, get_or, drop, replicate, None, Option, sym, ap, ◌∙◌, arith, rules}
 use Rattle.std.proofs.lemmas.List.{at_drop_all, length-set}
 use Rattle.roll.specs.Tables.{none}
 use Rattle.roll.specs.Entries.{awake, all_good?}
@@ -28,13 +28,12 @@ loop-e-preserved c =
     ]
 
 -- at the end of the loop the best is that of the whole walk
-walked : (seen : List Bool) (best found : Option Entry) (es : List Entry) (i : ℕ) → length es ≤ i → all_good? es ≡ true → walk seen best (drop i es) ≡ walk (replicate 128 false) None es → best ≡ found → task_of found ≡ first_of none es
-walked seen best found es i past good inv is =
+walked : (seen : List Bool) (best : Option Entry) (es : List Entry) (i : ℕ) → length es ≤ i → all_good? es ≡ true → walk seen best (drop i es) ≡ walk (replicate 128 false) None es → task_of best ≡ first_of none es
+walked seen best es i past good inv =
     let k : walk seen best (drop i es) ≡ best = at_drop_all (walk seen best) es i past in
-    ap task_of (sym is ∙ sym k ∙ inv) ∙ walk_first es good
+    ap task_of (sym k ∙ inv) ∙ walk_first es good
 
-pub returns-in-Some : goal.returns-in-Some
-returns-in-Some c = walked c.loop-e.seen c.loop-e.best _ c.args.es.now c.loop-e.e-index c.loop-e-test.false c.requires c.loop-e.invariant.0 c.in-Some.is
-
-pub returns-in-None : goal.returns-in-None
-returns-in-None c = walked c.loop-e.seen c.loop-e.best _ c.args.es.now c.loop-e.e-index c.loop-e-test.false c.requires c.loop-e.invariant.0 c.in-None.is
+pub returns : goal.returns
+returns c =
+    let m : c.map.result ≡ task_of c.loop-e.best = search rules in
+    m ∙ walked c.loop-e.seen c.loop-e.best c.args.es.now c.loop-e.e-index c.loop-e-test.false c.requires c.loop-e.invariant.0
