@@ -16,3 +16,7 @@ verdict_ok false u p = absurd (let z : ◌≡◌ {A = ℕ} 0 1 = cc in omega ari
 pub refused : (r : Result (Unit {0}) Refused) → IsErr r → r ≡ Err (record {})
 refused (Ok x) p = absurd (both_ways false refl p)
 refused (Err x) p = refl
+
+pub verdict_err : (b : Bool) (x : Refused) → verdict b ≡ Err x → b ≡ false
+verdict_err true x p = absurd (let z : ◌≡◌ {A = ℕ} 0 1 = cc in omega arith)
+verdict_err false x p = refl

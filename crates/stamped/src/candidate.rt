@@ -17,7 +17,7 @@ impl Candidate {
         ensures { result ≡ nat_lt (rank self.start) (rank other.start) }
     {
         let (a, b) = (self.start, other.start);
-        a.level < b.level || a.level == b.level && a.stamp < b.stamp
+        (a.level, a.stamp) < (b.level, b.stamp)
     }
 
     // The better of this one and the best so far.

@@ -3,6 +3,7 @@
 ghost use Rattle.std.specs.Prelude.{◌≡◌, ◌≤◌, length};
 
 // Room for the stamps of 128 tasks, two for each. The first `len` are the noted ones.
+// This is no ArrayVec, since the type is Copy, and no ArrayVec is.
 #[derive(Clone, Copy)]
 pub struct Renumbering {
     stamps: [u16; 256],

@@ -85,6 +85,7 @@ impl Roll for Packed {
         scan::tally(self.entries.as_slice(), task)
     }
 
+    // No default of the trait could refuse both, since a roll may have a lever.
     fn hold(&mut self, task: u8) -> Result<(), Refused> {
         Err(Refused)
     }

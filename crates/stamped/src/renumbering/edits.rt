@@ -39,20 +39,7 @@ impl Renumbering {
         ensures small { 0 < times_in stamp (noted self.now) → result < length (noted self.now) }
         ensures order { (s : ℕ) → 0 < times_in s (noted self.now) → s < stamp → below s (noted self.now) < result }
     {
-        smaller(&self.stamps[0..self.len], stamp)
+        let noted = &self.stamps[0..self.len];
+        noted.iter().filter(|other| **other < stamp).count() as u16
     }
-}
-
-// How many of the stamps are smaller than this one.
-fn smaller(stamps: &[u16], stamp: u16) -> u16
-    requires { length stamps.now < 65536 }
-    ensures { result ≡ below stamp stamps.now }
-{
-    let mut n = 0;
-    for s in stamps {
-        if *s < stamp {
-            n += 1;
-        }
-    }
-    n
 }

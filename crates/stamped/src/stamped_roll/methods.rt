@@ -1,8 +1,8 @@
 // What a stamped roll does.
 ghost use Rattle.std.specs.Prelude.{◌≡◌, refl, ◌+◌, ◌<◌, ◌≤◌, true, false, ◌&&◌, [], ◌∷◌, ◌++◌, length, if◌then◌else◌, nat_lt};
 ghost use Rattle.roll.specs.Ranges.{task?, level?};
-ghost use Rattle.roll.specs.Entries.{awake, count_of, ended, marking, levelled};
-ghost use Rattle.roll.specs.Model.{empty, first_in, may_add, after_add, verdict as verdict_of};
+ghost use Rattle.roll.specs.Entries.{awake, count_of, marking};
+ghost use Rattle.roll.specs.Model.{empty, has_in, may_add, after_add, verdict as verdict_of};
 ghost use Rattle.stamped.specs.Numbers.{renumbered};
 ghost use Rattle.stamped.specs.Meaning.{meaning_of, stamp_for};
 ghost use Rattle.std.proofs.lemmas.Bool.{false≢true};
@@ -14,7 +14,7 @@ use super::Stamped;
 use crate::candidate::Candidate;
 use crate::renumbering::slots::renumber;
 use crate::slot::{Slot, Start};
-use roll::{Refused, Roll, is_level, is_task, verdict};
+use roll::{Refused, Roll, in_range, verdict};
 
 impl Stamped {
     // A roll with no entry.
@@ -27,71 +27,15 @@ impl Stamped {
         }
     }
 
-    // How many entries the task has.
-    fn tally(&self, task: u8) -> u8
-        ensures { result ≡ count_of task (meaning_of self.now).entries }
-    {
-        if task < 128 {
-            self.slots[task as usize].len()
-        } else {
-            0
-        }
-    }
-
-    // Sets the mark of the task's oldest entry, and says whether there is one.
-    fn mark(&mut self, task: u8, asleep: bool) -> bool
-        ensures answer { result ≡ nat_lt 0 (count_of task (meaning_of self.old).entries) }
+    // Sets the mark of the task's oldest entry. Refused where there is none.
+    fn mark(&mut self, task: u8, asleep: bool) -> Result<(), Refused>
+        ensures answer { result ≡ verdict_of (has_in task (meaning_of self.old)) }
         ensures after { (meaning_of self.new).entries ≡ marking asleep task (meaning_of self.old).entries }
     {
-        if self.tally(task) == 0 {
-            return false;
-        }
+        verdict(self.count(task) > 0)?;
         let t = task as usize;
         self.slots[t] = self.slots[t].marked(asleep);
-        true
-    }
-
-    // Takes the task's oldest entry away, and says whether there was one.
-    fn shorten(&mut self, task: u8) -> bool
-        ensures answer { result ≡ nat_lt 0 (count_of task (meaning_of self.old).entries) }
-        ensures after { (meaning_of self.new).entries ≡ ended task (meaning_of self.old).entries }
-    {
-        if self.tally(task) == 0 {
-            return false;
-        }
-        let t = task as usize;
-        self.slots[t] = self.slots[t].ended();
-        true
-    }
-
-    // Sets the level of all entries of the task.
-    fn relevel(&mut self, task: u8, level: u8)
-        requires { task? task && level? level ≡ true }
-        ensures { (meaning_of self.new).entries ≡ levelled task level (meaning_of self.old).entries }
-    {
-        let t = task as usize;
-        self.slots[t] = self.slots[t].levelled(level);
-    }
-
-    // The task of the start that is first by level and stamp, of the awake ones that are the
-    // oldest of their task.
-    fn choose(&self) -> Option<u8>
-        ensures { result ≡ first_in (meaning_of self.now) }
-    {
-        let mut best: Option<Candidate> = None;
-        for t in 0..128 {
-            if let Some(start) = self.slots[t].live() {
-                best = Candidate {
-                    task: t as u8,
-                    start,
-                }
-                .or(best);
-            }
-        }
-        match best {
-            Some(c) => Some(c.task),
-            None => None,
-        }
+        Ok(())
     }
 
     // Gives all stamps anew, in order.
@@ -138,11 +82,11 @@ impl Stamped {
 impl Roll for Stamped {
     ghost meaning = { meaning_of };
 
-    ghost lever = { false };
+    const LEVER: bool = false;
 
     ghost LEVER = { false };
 
-    const LEVER: bool = false;
+    ghost lever = { false };
 
     ghost sound = { λ s. (sound_listed s.slots s.next s.whole (orderly_of s), λ t p. absurd (false≢true p)) };
 
@@ -156,50 +100,58 @@ impl Roll for Stamped {
         ensures after { meaning_of self.new ≡ after_add task level (meaning_of self.old) }
         ensures next { self.new.next ≡ (if may_add task level (meaning_of self.old) then stamp_for self.old + 1 else self.old.next) }
     {
-        if !is_task(task) || !is_level(level) || self.tally(task) >= 2 {
-            return Err(Refused);
-        }
+        in_range(task, level)?;
+        verdict(self.count(task) < 2)?;
         self.make_room();
         self.push(task, level);
         Ok(())
     }
 
     fn end(&mut self, task: u8) -> Result<(), Refused> {
-        verdict(self.shorten(task))
-    }
-
-    // No task has more than two entries.
-    fn clear(&mut self, task: u8) -> u8 {
-        let n = self.tally(task);
-        let _ = self.shorten(task);
-        let _ = self.shorten(task);
-        n
+        verdict(self.count(task) > 0)?;
+        let t = task as usize;
+        self.slots[t] = self.slots[t].ended();
+        Ok(())
     }
 
     fn sleep(&mut self, task: u8) -> Result<(), Refused> {
-        verdict(self.mark(task, true))
+        self.mark(task, true)
     }
 
     fn rouse(&mut self, task: u8) -> Result<(), Refused> {
-        verdict(self.mark(task, false))
+        self.mark(task, false)
     }
 
     fn set_level(&mut self, task: u8, level: u8) -> Result<(), Refused> {
-        if !is_task(task) || !is_level(level) {
-            return Err(Refused);
-        }
-        self.relevel(task, level);
+        in_range(task, level)?;
+        let t = task as usize;
+        self.slots[t] = self.slots[t].levelled(level);
         Ok(())
     }
 
     fn first(&mut self) -> Option<u8> {
-        self.choose()
+        let mut best = None;
+        for (task, slot) in self.slots.iter().enumerate() {
+            if let Some(start) = slot.live() {
+                best = Candidate {
+                    task: task as u8,
+                    start,
+                }
+                .or(best);
+            }
+        }
+        best.map(|candidate| candidate.task)
     }
 
     fn count(&self, task: u8) -> u8 {
-        self.tally(task)
+        if task < 128 {
+            self.slots[task as usize].len()
+        } else {
+            0
+        }
     }
 
+    // No default of the trait could refuse both, since a roll may have a lever.
     fn hold(&mut self, task: u8) -> Result<(), Refused> {
         Err(Refused)
     }

@@ -1,7 +1,8 @@
-use Rattle.std.proofs.Common.{◌≡◌, set, sym, ap, ◌∙◌, subst, arith}
+use Rattle.std.proofs.Common.{◌≡◌, ltb, set, sym, ap, ◌∙◌, subst, arith}
 use Rattle.std.proofs.lemmas.List.{length-set}
-use Rattle.std.proofs.lemmas.Bool.{lt-ltb, le-ltb}
+use Rattle.std.proofs.lemmas.Bool.{ltb-true, ltb-false}
 use Rattle.roll.specs.Entries.{count_of}
+use Rattle.roll.proofs.Verdicts.{verdict_ok, verdict_err}
 use Rattle.stamped.specs.declared.slot.Slot.{Slot}
 use Rattle.stamped.specs.Slots.{listed}
 use Rattle.stamped.specs.Counts.{Orderly}
@@ -9,38 +10,39 @@ use Rattle.stamped.specs.Writes.{marked_write, marking_none}
 use Rattle.stamped.specs.Tables.{orderly_of, has_slot}
 use Rattle.stamped.proofs.stamped_roll.Stamped.mark.Goals as goal
 
-pub returns-then-tally-eq0 : goal.returns-then-tally-eq0
-returns-then-tally-eq0 c =
+pub returns-in_err-verdict-clause-after : goal.returns-in_err-verdict-clause-after
+returns-in_err-verdict-clause-after c =
     let t = c.args.task in
     let es = listed c.args.self.now.slots c.args.self.now.next in
-    let z : count_of t es ≡ 0 = sym c.tally.ensures ∙ c.if-tally-eq0.true in
-    record {
-      answer = sym (le-ltb 0 (count_of t es) (omega arith));
-      after = sym (marking_none c.args.asleep t es z);
-    }
+    let n = ltb-false 0 c.count.result (verdict_err (ltb 0 c.count.result) _ (sym c.verdict.ensures ∙ c.in_err-verdict.was)) in
+    let z : count_of t es ≡ 0 = omega arith in
+    sym (marking_none c.args.asleep t es z)
 
 pub bounds-self-t : goal.bounds-self-t
-bounds-self-t c = has_slot c.args.self.now c.args.task (omega arith)
+bounds-self-t c =
+    let p = ltb-true 0 c.count.result (verdict_ok (ltb 0 c.count.result) _ (sym c.verdict.ensures ∙ c.in_ok-verdict.was)) in
+    has_slot c.args.self.now c.args.task (omega arith)
 
 pub bounds-self-t-2 : goal.bounds-self-t-2
-bounds-self-t-2 c = has_slot c.args.self.now c.args.task (omega arith)
+bounds-self-t-2 c =
+    let p = ltb-true 0 c.count.result (verdict_ok (ltb 0 c.count.result) _ (sym c.verdict.ensures ∙ c.in_ok-verdict.was)) in
+    has_slot c.args.self.now c.args.task (omega arith)
 
 pub invariant_of-self : goal.invariant_of-self
 invariant_of-self c =
     let s = c.args.self.now in
     let t = c.args.task in
+    let p = ltb-true 0 c.count.result (verdict_ok (ltb 0 c.count.result) _ (sym c.verdict.ensures ∙ c.in_ok-verdict.was)) in
     let lt = has_slot s t (omega arith) in
     let w = marked_write c.args.asleep s.next t s.slots (omega (arith, s.whole)) (orderly_of s) in
     let r = subst (λ (y : Slot). Orderly (set s.slots t y) s.next) (sym c.marked.ensures) w.1 in
     record { whole = length-set s.slots t c.marked.result ∙ s.whole; room = s.room; apart = r.apart; good = r.good }
 
-pub returns : goal.returns
-returns c =
+pub returns-clause-after : goal.returns-clause-after
+returns-clause-after c =
     let s = c.args.self.now in
     let t = c.args.task in
+    let p = ltb-true 0 c.count.result (verdict_ok (ltb 0 c.count.result) _ (sym c.verdict.ensures ∙ c.in_ok-verdict.was)) in
     let lt = has_slot s t (omega arith) in
     let w = marked_write c.args.asleep s.next t s.slots (omega (arith, s.whole)) (orderly_of s) in
-    record {
-      answer = sym (lt-ltb 0 (count_of t (listed s.slots s.next)) (omega arith));
-      after = ap (λ (y : Slot). listed (set s.slots t y) s.next) c.marked.ensures ∙ w.0;
-    }
+    ap (λ (y : Slot). listed (set s.slots t y) s.next) c.marked.ensures ∙ w.0

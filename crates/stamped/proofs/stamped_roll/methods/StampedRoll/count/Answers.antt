@@ -2,7 +2,7 @@ use Rattle.std.proofs.Common.{sym, ◌∙◌, arith}
 use Rattle.stamped.specs.Tables.{orderly_of}
 use Rattle.stamped.specs.Counts.{count_size}
 use Rattle.stamped.specs.Writes.{beyond}
-use Rattle.stamped.proofs.stamped_roll.Stamped.tally.Goals as goal
+use Rattle.stamped.proofs.stamped_roll.methods.StampedRoll.count.Goals as goal
 
 pub returns-then-task-lt128 : goal.returns-then-task-lt128
 returns-then-task-lt128 c =
