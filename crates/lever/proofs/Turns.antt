@@ -1,6 +1,5 @@
 -- One turn of the search: m is what a roll without a lever means, and t is its first.
-use Rattle.std.proofs.Common.{◌≡◌, ℕ, suc, ◌+◌, ◌-◌, ◌<◌, ◌≤◌, Bool, true, false, List, [], ◌∷◌, ◌++◌, length, get_or, take, set, Some, None, Option, sym, refl, ap, ◌∙◌, arith}
-use Rattle.std.proofs.lemmas.List.{take_more, take_more_set}
+use Rattle.std.proofs.Common.{◌≡◌, ℕ, suc, Bool, true, false, List, [], ◌∷◌, ◌++◌, Some, None, Option, sym, refl, ap, ◌∙◌}
 use Rattle.roll.specs.Tables.{none}
 use Rattle.roll.specs.Firsts.{first_of}
 use Rattle.roll.specs.Model.{Model, with, first_in, after_sleep, after_rouse}
@@ -33,16 +32,10 @@ module _ (m : Model) (free : m.held ≡ none) (t : ℕ) (first : Some t ≡ firs
   turn_same h p = first_slept h t m.entries p
 
 -- ---- rousing what was put to sleep
-roused_push : (ts : List ℕ) (t : ℕ) (m : Model) → roused (ts ++ t ∷ []) m ≡ roused ts (after_rouse t m)
+pub roused_push : (ts : List ℕ) (t : ℕ) (m : Model) → roused (ts ++ t ∷ []) m ≡ roused ts (after_rouse t m)
 roused_push [] t m = refl
 roused_push (u ∷ ts) t m = ap (after_rouse u) (roused_push ts t m)
 
-pub roused_more : (xs : List ℕ) (n : ℕ) (m : Model) → 0 < n → n ≤ length xs → roused (take n xs) m ≡ roused (take (n - 1) xs) (after_rouse (get_or xs (n - 1) 0) m)
-roused_more xs n m p q =
-    let e : (n - 1) + 1 ≡ n = omega arith in
-    ap (λ k. roused (take k xs) m) (sym e) ∙ ap (λ l. roused l m) (take_more xs (n - 1) 0 (omega arith)) ∙ roused_push (take (n - 1) xs) (get_or xs (n - 1) 0) m
-
 -- one more put to sleep, and noted
-pub slept_more : (xs : List ℕ) (n t : ℕ) (m : Model) → n < length xs → m.held ≡ none → Some t ≡ first_in m → roused (take (n + 1) (set xs n t)) (after_sleep t m) ≡ roused (take n xs) m
-slept_more xs n t m lt free first =
-    ap (λ l. roused l (after_sleep t m)) (take_more_set xs n t lt) ∙ roused_push (take n xs) t (after_sleep t m) ∙ ap (roused (take n xs)) (turn_back m free t first)
+pub slept_more : (ts : List ℕ) (t : ℕ) (m : Model) → m.held ≡ none → Some t ≡ first_in m → roused (ts ++ t ∷ []) (after_sleep t m) ≡ roused ts m
+slept_more ts t m free first = roused_push ts t (after_sleep t m) ∙ ap (roused ts) (turn_back m free t first)

@@ -6,7 +6,7 @@ ghost use Rattle.std.proofs.Common.{rules};
 
 use crate::holds::Holds;
 use crate::search;
-use roll::{Refused, Roll, clear_all, is_task};
+use roll::{Refused, Roll, clear_all, is_task, verdict};
 
 // A roll with a lever, over the roll `below`. Where the roll below has a lever itself, holds are
 // passed on to it; where it has none, they are kept in the set `own`.
@@ -32,11 +32,11 @@ impl<R: Roll> Lever<R> {
 impl<R: Roll> Roll for Lever<R> {
     ghost meaning = { λ s. over R.Roll.lever (R.Roll.meaning s.below) s.own };
 
-    ghost lever = { true };
+    const LEVER: bool = true;
 
     ghost LEVER = { true };
 
-    const LEVER: bool = true;
+    ghost lever = { true };
 
     ghost sound = { λ s. over_sound R.Roll.lever (R.Roll.meaning s.below) s.own (R.Roll.sound s.below) };
 
@@ -84,9 +84,7 @@ impl<R: Roll> Roll for Lever<R> {
         if R::LEVER {
             return self.below.hold(task);
         }
-        if !is_task(task) || self.own.has(task) {
-            return Err(Refused);
-        }
+        verdict(is_task(task) && !self.own.has(task))?;
         self.own.put(task, true);
         Ok(())
     }
@@ -95,9 +93,7 @@ impl<R: Roll> Roll for Lever<R> {
         if R::LEVER {
             return self.below.unhold(task);
         }
-        if !is_task(task) || !self.own.has(task) {
-            return Err(Refused);
-        }
+        verdict(is_task(task) && self.own.has(task))?;
         self.own.put(task, false);
         Ok(())
     }

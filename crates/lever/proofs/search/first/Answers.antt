@@ -1,5 +1,4 @@
-use Rattle.std.proofs.Common.{◌≡◌, ◌+◌, ◌<◌, ◌≤◌, length, take, set, Some, sym, ap, ◌∙◌, subst, arith}
-use Rattle.std.proofs.lemmas.List.{length-set}
+use Rattle.std.proofs.Common.{◌≡◌, ◌<◌, ◌≤◌, [], ◌∷◌, ◌++◌, Some, sym, ap, ◌∙◌, subst, arith}
 use Rattle.roll.specs.Firsts.{first_of}
 use Rattle.roll.specs.Model.{Model, Sound, first_in, after_sleep}
 use Rattle.roll.proofs.Sleeps.{awakes, awakes_le}
@@ -14,19 +13,10 @@ use Rattle.lever.proofs.search.first.Goals.{in-Some+then-not-has, in_default}
 few_awake : (m : Model) → Sound m → awakes m.entries ≤ 254
 few_awake m s = let n = awakes_le m.entries in let k = sound_length m.entries s.0 in omega arith
 
-pub bounds-slept-n : goal.bounds-slept-n
-bounds-slept-n g c =
-    let b = c.loop-found.roll in
-    let e = c.first-found.new.self in
-    let f = turn_one (g.R.Roll.meaning b) (g.met.R.Roll.free b c.requires) c.in-Some.task (sym c.in-Some.is ∙ c.loop-found.invariant.3) in
-    let k = few_awake (g.R.Roll.meaning e) (g.met.R.Roll.sound e) in
-    let i = c.loop-found.invariant.2 in
-    omega arith
-
-pub overflow_add-n : goal.overflow_add-n
-overflow_add-n g c =
-    let e = c.first-found.new.self in
-    let k = few_awake (g.R.Roll.meaning e) (g.met.R.Roll.sound e) in
+pub push-requires : goal.push-requires
+push-requires g c =
+    let f = turn_one (g.R.Roll.meaning c.loop-found.roll) (g.met.R.Roll.free c.loop-found.roll c.requires) c.in-Some.task (sym c.in-Some.is ∙ c.loop-found.invariant.3) in
+    let k = few_awake (g.R.Roll.meaning c.first-found.new.self) (g.met.R.Roll.sound c.first-found.new.self) in
     let i = c.loop-found.invariant.2 in
     omega arith
 
@@ -44,33 +34,23 @@ pub loop-found-preserved : goal.loop-found-preserved
 loop-found-preserved g c =
     let b = c.loop-found.roll in
     let m = g.R.Roll.meaning b in
-    let start = c.first-found.new.self in
     let t = c.in-Some.task in
     let h = members c.args.held.now in
-    let xs = c.loop-found.slept in
-    let n = c.loop-found.n in
+    let xs = c.loop-found.slept.items in
     let inv = c.loop-found.invariant in
     let p = g.met.R.Roll.free b c.requires in
     let f : Some t ≡ first_in m = sym c.in-Some.is ∙ inv.3 in
     let one = turn_one m p t f in
-    let few = few_awake (g.R.Roll.meaning start) (g.met.R.Roll.sound start) in
     let sum = inv.2 in
-    let lt : n < length xs = omega (arith, inv.4) in
     let e : g.R.Roll.meaning c.first-found-in-Some.new.self ≡ after_sleep t m = c.first-found-in-Some.ensures.after ∙ c.sleep.ensures.after in
-    let awake : awakes (g.R.Roll.meaning c.first-found-in-Some.new.self).entries ≡ awakes (after_sleep t m).entries = ap (λ (x : Model). awakes x.entries) e in (
-      ap (roused (take (n + 1) (set xs n t))) e ∙ slept_more xs n t m lt p f ∙ inv.0,
+    let awake : awakes (g.R.Roll.meaning c.first-found-in-Some.new.self).entries ≡ awakes (after_sleep t m).entries = ap (λ (x : Model). awakes x.entries) e in
+    let pushed = c.push.ensures.items in
+    let len = c.push.ensures.len in (
+      ap (λ l. roused l (g.R.Roll.meaning c.first-found-in-Some.new.self)) pushed ∙ ap (roused (xs ++ t ∷ [])) e ∙ slept_more xs t m p f ∙ inv.0,
       ap (λ (x : Model). first_of h x.entries) e ∙ turn_same m p t f h (sym c.if-not-has.ensures) ∙ inv.1,
       omega arith,
       c.first-found-in-Some.ensures.answer ∙ ap first_in (sym c.first-found-in-Some.ensures.after),
-      length-set xs n t ∙ inv.4,
     )
-
-pub rouse-requires : goal.rouse-requires
-rouse-requires g c =
-    let start = c.first-found.new.self in
-    let few = few_awake (g.R.Roll.meaning start) (g.met.R.Roll.sound start) in
-    let sum = c.loop-found.invariant.2 in
-    omega (arith, c.loop-found.invariant.4)
 
 pub returns : goal.returns
 returns g c =
@@ -87,5 +67,5 @@ returns g c =
     ]) in
     record {
       answer = found ∙ same;
-      after = c.rouse.ensures ∙ inv.0 ∙ back;
+      after = c.rouse.ensures ∙ ap (λ l. roused l m) c.as_slice.ensures.value ∙ inv.0 ∙ back;
     }
