@@ -1,6 +1,6 @@
 // The rules of a roll once more, over plain lists.
 use self::calls::{Answer, Call};
-use roll::Entry;
+use roll::{Entry, Refused, verdict};
 use std::alloc::{AllocError, Global};
 
 mod calls;
@@ -16,7 +16,7 @@ struct Plain {
 }
 
 fn in_range(task: u8) -> bool {
-    1 <= task && task <= 127
+    (1..=127).contains(&task)
 }
 
 impl Plain {
@@ -28,6 +28,7 @@ impl Plain {
         }
     }
 
+    // As `ask` of the tests does a roll: Plain is none, since of it nothing is proved and it allocates.
     fn ask(&mut self, call: Call) -> Result<Answer, AllocError> {
         Ok(match call {
             Call::Add(task, level) => Answer::Done(self.add(task, level)?),
@@ -44,70 +45,55 @@ impl Plain {
     }
 
     fn count(&self, task: u8) -> u8 {
-        let mut n: u8 = 0;
-        for e in &self.entries {
-            if e.task == task {
-                n = n.saturating_add(1);
-            }
-        }
-        n
+        let entries = self.entries.iter().filter(|e| e.task == task);
+        u8::try_from(entries.count()).unwrap_or(u8::MAX)
     }
 
     fn oldest(&self, task: u8) -> Option<usize> {
-        for (i, e) in self.entries.iter().enumerate() {
-            if e.task == task {
-                return Some(i);
-            }
-        }
-        None
+        self.entries.iter().position(|e| e.task == task)
     }
 
-    fn add(&mut self, task: u8, level: u8) -> Result<bool, AllocError> {
+    fn add(&mut self, task: u8, level: u8) -> Result<Result<(), Refused>, AllocError> {
         if !in_range(task) || level > 4 || self.count(task) == 2 {
-            return Ok(false);
+            return Ok(Err(Refused));
         }
         self.entries.push(Entry {
             task,
             level,
             asleep: false,
         })?;
-        Ok(true)
+        Ok(Ok(()))
     }
 
-    fn end(&mut self, task: u8) -> bool {
+    fn end(&mut self, task: u8) -> Result<(), Refused> {
         match self.oldest(task) {
             Some(i) if i < self.entries.len() => {
                 let _ = self.entries.remove(i);
-                true
+                Ok(())
             }
-            _ => false,
+            _ => Err(Refused),
         }
     }
 
     fn clear(&mut self, task: u8) -> u8 {
-        self.end(task) as u8 + self.end(task) as u8
+        u8::from(self.end(task).is_ok()) + u8::from(self.end(task).is_ok())
     }
 
-    fn mark(&mut self, task: u8, asleep: bool) -> bool {
-        for e in self.entries.iter_mut() {
-            if e.task == task {
-                e.asleep = asleep;
-                return true;
-            }
-        }
-        false
+    fn mark(&mut self, task: u8, asleep: bool) -> Result<(), Refused> {
+        let mut entries = self.entries.iter_mut();
+        let e = entries.find(|e| e.task == task).ok_or(Refused)?;
+        e.asleep = asleep;
+        Ok(())
     }
 
-    fn set_level(&mut self, task: u8, level: u8) -> bool {
-        if !in_range(task) || level > 4 {
-            return false;
-        }
+    fn set_level(&mut self, task: u8, level: u8) -> Result<(), Refused> {
+        verdict(in_range(task) && level <= 4)?;
         for e in self.entries.iter_mut() {
             if e.task == task {
                 e.level = level;
             }
         }
-        true
+        Ok(())
     }
 
     fn first(&self) -> Option<u8> {
@@ -121,31 +107,24 @@ impl Plain {
                 _ => best = Some(*e),
             }
         }
-        match best {
-            Some(e) => Some(e.task),
-            None => None,
-        }
+        best.map(|e| e.task)
     }
 
     fn is_held(&self, task: u8) -> bool {
         self.held.contains(&task)
     }
 
-    fn hold(&mut self, task: u8) -> Result<bool, AllocError> {
+    fn hold(&mut self, task: u8) -> Result<Result<(), Refused>, AllocError> {
         if !self.lever || !in_range(task) || self.is_held(task) {
-            return Ok(false);
+            return Ok(Err(Refused));
         }
         self.held.push(task)?;
-        Ok(true)
+        Ok(Ok(()))
     }
 
-    fn unhold(&mut self, task: u8) -> bool {
-        for i in 0..self.held.len() {
-            if self.held[i] == task {
-                let _ = self.held.remove(i);
-                return true;
-            }
-        }
-        false
+    fn unhold(&mut self, task: u8) -> Result<(), Refused> {
+        verdict(self.is_held(task))?;
+        self.held.retain(|held| *held != task);
+        Ok(())
     }
 }

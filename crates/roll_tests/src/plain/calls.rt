@@ -1,4 +1,5 @@
 // Calls as data, so that one list of them goes to every roll.
+use roll::Refused;
 
 #[derive(Clone, Copy)]
 pub enum Call {
@@ -16,7 +17,7 @@ pub enum Call {
 
 #[derive(Clone, Copy, PartialEq, Debug)]
 pub enum Answer {
-    Done(bool),
+    Done(Result<(), Refused>),
     Number(u8),
     Task(Option<u8>),
 }

@@ -1,11 +1,12 @@
 // Short lists of calls with the answers that the rules give.
 use super::calls::{Answer, Call};
+use roll::Refused;
 
 pub type Step = (Call, Answer);
 
-pub const DONE: Answer = Answer::Done(true);
+pub const DONE: Answer = Answer::Done(Ok(()));
 
-pub const REFUSED: Answer = Answer::Done(false);
+pub const REFUSED: Answer = Answer::Done(Err(Refused));
 
 pub const IDLE: Answer = Answer::Task(None);
 

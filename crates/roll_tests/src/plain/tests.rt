@@ -47,16 +47,16 @@ impl Source {
 // Asks a roll.
 fn ask<R: Roll>(roll: &mut R, call: Call) -> Answer {
     match call {
-        Call::Add(task, level) => Answer::Done(roll.add(task, level).is_ok()),
-        Call::End(task) => Answer::Done(roll.end(task).is_ok()),
+        Call::Add(task, level) => Answer::Done(roll.add(task, level)),
+        Call::End(task) => Answer::Done(roll.end(task)),
         Call::Clear(task) => Answer::Number(roll.clear(task)),
-        Call::Sleep(task) => Answer::Done(roll.sleep(task).is_ok()),
-        Call::Rouse(task) => Answer::Done(roll.rouse(task).is_ok()),
-        Call::SetLevel(task, level) => Answer::Done(roll.set_level(task, level).is_ok()),
+        Call::Sleep(task) => Answer::Done(roll.sleep(task)),
+        Call::Rouse(task) => Answer::Done(roll.rouse(task)),
+        Call::SetLevel(task, level) => Answer::Done(roll.set_level(task, level)),
         Call::First => Answer::Task(roll.first()),
         Call::Count(task) => Answer::Number(roll.count(task)),
-        Call::Hold(task) => Answer::Done(roll.hold(task).is_ok()),
-        Call::Unhold(task) => Answer::Done(roll.unhold(task).is_ok()),
+        Call::Hold(task) => Answer::Done(roll.hold(task)),
+        Call::Unhold(task) => Answer::Done(roll.unhold(task)),
     }
 }
 
@@ -166,7 +166,6 @@ fn for_no_task(task: u8) -> [Step; 9] {
 }
 
 fn any_roll<R: Roll>(rt: &impl Abort, roll: &mut R) {
-    assert_eq!(rt; R::LEVER, R::has_lever());
     assert_eq!(rt; roll.hold(1).is_ok(), R::LEVER);
     assert_eq!(rt; roll.unhold(1).is_ok(), R::LEVER);
     steps(rt, roll, &TWO_LEVELS);
