@@ -1,5 +1,5 @@
 -- The faults of a book: number, group and layer of each cause, and which of two is told before the other.
-use Rattle.std.specs.Prelude.{ℕ, Bool, ◌&&◌, ◌||◌, List, codes, ◌==◌, nat_lt}
+use Rattle.std.specs.Prelude.{ℕ, Bool, ◌&&◌, ◌||◌, List, ◌∷◌, ◌++◌, codes, decimal, ◌==◌, nat_lt}
 use Rattle.book.specs.declared.faults.Layer.{Layer}
 use Rattle.book.specs.declared.faults.Layer.TheVariants.{Header, Task, Instruction}
 use Rattle.book.specs.declared.faults.Cause.{Cause}
@@ -49,3 +49,7 @@ before f g =
     && (nat_lt f.place g.place
     || (f.place == g.place
     && nat_lt (number_of f.cause) (number_of g.cause))))
+
+-- how a fault is told: "book", its number, its place, with a space between, in decimal
+abbrev pub text_of : Fault → List ℕ
+text_of f = codes "book" ++ (32 ∷ (decimal (number_of f.cause) ++ (32 ∷ decimal f.place)))

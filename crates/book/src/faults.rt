@@ -1,10 +1,13 @@
 //! What can be wrong with a book, and how it is told.
 
-ghost use Rattle.std.specs.Prelude.{◌≡◌};
-ghost use Rattle.book.specs.Faults.{number_of, word_of, fault};
+ghost use Rattle.std.specs.Prelude.{◌≡◌, Some};
+ghost use Rattle.book.specs.Faults.{number_of, word_of, fault, text_of};
+
+use std::error::Error;
+use std::fmt;
 
 /// The part of a book that a fault is in.
-#[derive(Clone, Copy)]
+#[derive(Clone, Copy, Debug, PartialEq, Eq)]
 pub enum Layer {
     Header,
     Task,
@@ -13,49 +16,51 @@ pub enum Layer {
 
 impl Layer {
     /// The words for the layer.
-    pub fn word(self) -> &'static [u8]
+    pub fn word(self) -> &'static str
         ensures { result.now ≡ word_of self }
     {
         match self {
-            Layer::Header => b"header",
-            Layer::Task => b"task row",
-            Layer::Instruction => b"instruction row",
+            Layer::Header => "header",
+            Layer::Task => "task row",
+            Layer::Instruction => "instruction row",
         }
     }
 }
 
-/// Why a book is refused.
-#[derive(Clone, Copy)]
+impl fmt::Display for Layer {
+    ghost output = { λ layer. Some (word_of layer) };
+
+    fn fmt<W: fmt::Write>(&self, f: &mut fmt::Formatter<W>) -> fmt::Result {
+        f.write_str(self.word())
+    }
+}
+
+/// Why a book is refused, each with the number under which the cause is known outside.
+#[derive(Clone, Copy, Debug, PartialEq, Eq)]
 pub enum Cause {
     /// It has fewer bytes than a header, or more than 16 bits can address.
-    Size,
+    Size = 21,
     /// A count, or the steps, is out of its range.
-    Range,
+    Range = 22,
     /// A section lies outside the book or over the other one.
-    Sections,
+    Sections = 23,
     /// A task row has a number, a level or a script that it may not have.
-    BadTask,
+    BadTask = 24,
     /// No row is for task 1, with which every station begins.
-    NoTaskOne,
+    NoTaskOne = 25,
     /// An instruction row has an unknown letter, or its fourth byte is not 0.
-    BadInstruction,
+    BadInstruction = 26,
+}
+
+impl From<Cause> for u8 {
+    ghost from_gives = { λ cause number. number ≡ number_of cause };
+
+    fn from(cause: Cause) -> u8 {
+        cause as u8
+    }
 }
 
 impl Cause {
-    /// The number under which the cause is known outside.
-    pub fn number(self) -> u8
-        ensures { result ≡ number_of self }
-    {
-        match self {
-            Cause::Size => 21,
-            Cause::Range => 22,
-            Cause::Sections => 23,
-            Cause::BadTask => 24,
-            Cause::NoTaskOne => 25,
-            Cause::BadInstruction => 26,
-        }
-    }
-
     /// The fault of this cause at a byte place.
     pub(crate) fn at(self, place: usize) -> Fault
         ensures { result ≡ fault self place }
@@ -74,9 +79,21 @@ impl Cause {
 }
 
 /// One fault of a book: why, at which byte, and in which layer.
-#[derive(Clone, Copy)]
+#[derive(Clone, Copy, Debug, PartialEq, Eq)]
 pub struct Fault {
     pub cause: Cause,
     pub place: usize,
     pub layer: Layer,
 }
+
+impl fmt::Display for Fault {
+    ghost output = { λ fault. Some (text_of fault) };
+
+    fn fmt<W: fmt::Write>(&self, f: &mut fmt::Formatter<W>) -> fmt::Result {
+        let number = u8::from(self.cause);
+        let place = self.place;
+        write!(f, "book {number} {place}")
+    }
+}
+
+impl Error for Fault {}

@@ -1,10 +1,14 @@
 //! The letter that an instruction row begins with.
 
-ghost use Rattle.std.specs.Prelude.{◌≡◌, Some};
-ghost use Rattle.book.specs.Letters.{byte_of, letter_of, Spells};
+ghost use Rattle.std.specs.Prelude.{◌≡◌, ◌++◌, codes, decimal, Some};
+ghost use Rattle.book.specs.Letters.{byte_of, letter_of};
+ghost use Rattle.book.specs.Reading.{Reads};
+
+use std::error::Error;
+use std::fmt;
 
 /// What an instruction does: a macro of the station, or a jump within the script.
-#[derive(Clone, Copy)]
+#[derive(Clone, Copy, Debug, PartialEq, Eq)]
 pub enum Letter {
     Rleas,
     Queue,
@@ -24,13 +28,16 @@ pub enum Letter {
     Jump,
 }
 
-impl Letter {
-    /// The byte that stands for the letter in a book.
-    pub fn byte(self) -> u8
-        ensures value { result ≡ byte_of self }
-        ensures back { letter_of result ≡ Some self }
-    {
-        match self {
+/// A byte that stands for no letter.
+#[derive(Clone, Copy, Debug, PartialEq, Eq)]
+pub struct UnknownLetter(pub u8);
+
+/// The byte that stands for the letter in a book.
+impl From<Letter> for u8 {
+    ghost from_gives = { λ letter byte. (byte ≡ byte_of letter) × (letter_of byte ≡ Some letter) };
+
+    fn from(letter: Letter) -> u8 {
+        match letter {
             Letter::Rleas => b'R',
             Letter::Queue => b'Q',
             Letter::Abort => b'A',
@@ -49,30 +56,43 @@ impl Letter {
             Letter::Jump => b'J',
         }
     }
+}
 
-    /// The letter that a byte stands for, if any.
-    pub fn from_byte(b: u8) -> Option<Letter>
-        ensures value { result ≡ letter_of b }
-        ensures right { Spells b result }
-    {
-        match b {
-            b'R' => Some(Letter::Rleas),
-            b'Q' => Some(Letter::Queue),
-            b'A' => Some(Letter::Abort),
-            b'D' => Some(Letter::Delay),
-            b'T' => Some(Letter::Timer),
-            b'C' => Some(Letter::Ctime),
-            b'P' => Some(Letter::Chap),
-            b'S' => Some(Letter::Sfact),
-            b'G' => Some(Letter::Gfact),
-            b'H' => Some(Letter::Susp),
-            b'U' => Some(Letter::Rsum),
-            b'W' => Some(Letter::Wake),
-            b'K' => Some(Letter::Cwake),
-            b'M' => Some(Letter::Stime),
-            b'X' => Some(Letter::Exit),
-            b'J' => Some(Letter::Jump),
-            _ => None,
+/// The letter that a byte stands for, if any.
+impl TryFrom<u8> for Letter {
+    type Error = UnknownLetter;
+
+    ghost try_from_gives = { Reads };
+
+    fn try_from(byte: u8) -> Result<Letter, UnknownLetter> {
+        match byte {
+            b'R' => Ok(Letter::Rleas),
+            b'Q' => Ok(Letter::Queue),
+            b'A' => Ok(Letter::Abort),
+            b'D' => Ok(Letter::Delay),
+            b'T' => Ok(Letter::Timer),
+            b'C' => Ok(Letter::Ctime),
+            b'P' => Ok(Letter::Chap),
+            b'S' => Ok(Letter::Sfact),
+            b'G' => Ok(Letter::Gfact),
+            b'H' => Ok(Letter::Susp),
+            b'U' => Ok(Letter::Rsum),
+            b'W' => Ok(Letter::Wake),
+            b'K' => Ok(Letter::Cwake),
+            b'M' => Ok(Letter::Stime),
+            b'X' => Ok(Letter::Exit),
+            b'J' => Ok(Letter::Jump),
+            _ => Err(UnknownLetter(byte)),
         }
     }
 }
+
+impl fmt::Display for UnknownLetter {
+    ghost output = { λ e. Some (codes "no letter has byte " ++ decimal e.0) };
+
+    fn fmt<W: fmt::Write>(&self, f: &mut fmt::Formatter<W>) -> fmt::Result {
+        write!(f, "no letter has byte {}", self.0)
+    }
+}
+
+impl Error for UnknownLetter {}

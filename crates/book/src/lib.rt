@@ -13,6 +13,6 @@ mod sections;
 
 pub use checking::check;
 pub use faults::{Cause, Fault, Layer};
-pub use letters::Letter;
-pub use reader::{Book, Reading};
+pub use letters::{Letter, UnknownLetter};
+pub use reader::Book;
 pub use sections::{Layout, Section, TaskRow};

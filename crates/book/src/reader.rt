@@ -1,6 +1,7 @@
 //! A book that passed the check, and what it says.
 
-ghost use Rattle.std.specs.Prelude.{◌≡◌, true, length, IfSome, None};
+ghost use Rattle.std.specs.Prelude.{◌≡◌, true, length, IfSome, None, IfOk};
+ghost use Rattle.std.specs.Result.{result_err};
 ghost use Rattle.book.specs.Numbers.{be16, be32};
 ghost use Rattle.book.specs.Verdict.{told, clean};
 ghost use Rattle.book.specs.Reader.{count_in, steps_in, task_in, registered_in, level_in, length_in, script_place, Handed, blank_bytes, opened};
@@ -12,7 +13,7 @@ use crate::sections::{Layout, Section, TaskRow, find_row};
 static BLANK: [u8; 18] = [0, 1, 0, 12, 0, 0, 0, 18, 0, 0, 0, 0, 1, 4, 0, 0, 0, 0];
 
 /// A book without faults, in bytes that are lent to it.
-#[derive(Clone, Copy)]
+#[derive(Clone, Copy, Debug)]
 pub struct Book<'a> {
     bytes: &'a [u8],
     layout: Layout,
@@ -22,33 +23,14 @@ pub struct Book<'a> {
     ghost steps: { layout.steps ≡ be32 bytes.now 8 },
 }
 
-/// What comes of reading a book: the book that is opened, and the fault if that is the blank one.
-#[derive(Clone, Copy)]
-pub struct Reading<'a> {
-    pub book: Book<'a>,
-    pub fault: Option<Fault>,
-}
-
 impl<'a> Book<'a> {
-    /// The book in these bytes; where they have a fault, the blank book and the fault that is told.
-    pub fn read(bytes: &'a [u8]) -> Reading<'a>
-        ensures fault { result.fault ≡ told bytes.now }
-        ensures bytes { result.book.bytes.now ≡ opened bytes.now }
-        ensures lent { told bytes.now ≡ None → result.book.bytes ≡ bytes.entry }
+    /// The book in these bytes, or the fault that is told of them.
+    pub fn read(bytes: &'a [u8]) -> Result<Book<'a>, Fault>
+        ensures fault { result_err result ≡ told bytes.now }
+        ensures lent { IfOk result (λ book. book.bytes ≡ bytes.entry) }
     {
-        let layout = match check(bytes) {
-            Ok(layout) => layout,
-            Err(fault) => {
-                return Reading {
-                    book: Book::blank(),
-                    fault: Some(fault),
-                };
-            }
-        };
-        Reading {
-            book: Book { bytes, layout },
-            fault: None,
-        }
+        let layout = check(bytes)?;
+        Ok(Book { bytes, layout })
     }
 
     /// The book in these bytes, or the blank book where they have a fault.
@@ -56,7 +38,7 @@ impl<'a> Book<'a> {
         ensures bytes { result.bytes.now ≡ opened bytes.now }
         ensures lent { told bytes.now ≡ None → result.bytes ≡ bytes.entry }
     {
-        Book::read(bytes).book
+        Book::read(bytes).unwrap_or(Book::blank())
     }
 
     /// The book with task 1 alone, at level 4, without instructions or steps.
@@ -98,10 +80,8 @@ impl<'a> Book<'a> {
         ensures { result ≡ task_in self.entry.bytes.now task }
     {
         let layout = self.layout;
-        match find_row(self.bytes, layout, task, layout.tasks.count) {
-            Some(index) => Some(TaskRow::read(self.bytes, layout, index)),
-            None => None,
-        }
+        let index = find_row(self.bytes, layout, task, layout.tasks.count)?;
+        Some(TaskRow::read(self.bytes, layout, index))
     }
 
     /// Whether a task has a row.
@@ -115,20 +95,14 @@ impl<'a> Book<'a> {
     pub fn level(self, task: u8) -> u8
         ensures { result ≡ level_in self.entry.bytes.now task }
     {
-        match self.task(task) {
-            Some(row) => row.level,
-            None => 0,
-        }
+        self.task(task).map_or(0, |row| row.level)
     }
 
     /// How many instructions the script of a task has; 0 if the task is not registered.
     pub fn script_length(self, task: u8) -> u16
         ensures { result ≡ length_in self.entry.bytes.now task }
     {
-        match self.task(task) {
-            Some(row) => row.length,
-            None => 0,
-        }
+        self.task(task).map_or(0, |row| row.length)
     }
 
     /// Instruction `index` of the script of a task: those twelve bytes of the book themselves.
@@ -136,9 +110,7 @@ impl<'a> Book<'a> {
         ensures handed { Handed self.entry.bytes (script_place self.entry.bytes.now task index) result }
         ensures twelve { IfSome result (λ row. length row.now ≡ 12) }
     {
-        let Some(script) = self.task(task) else {
-            return None;
-        };
+        let script = self.task(task)?;
         if index >= script.length as usize {
             return None;
         }

@@ -5,14 +5,14 @@ ghost use Rattle.book.specs.Numbers.{be16, be32};
 ghost use Rattle.book.specs.Layout.{layout_of, place_of_task, end_of_tasks, place_of_instruction, end_of_instructions, task_at, row_for};
 
 /// Rows of one kind, one after the other: where they begin, and how many they are.
-#[derive(Clone, Copy)]
+#[derive(Clone, Copy, Debug, PartialEq, Eq)]
 pub struct Section {
     pub offset: u16,
     pub count: u16,
 }
 
 /// What a header says: the two sections, and for how many steps a runner runs.
-#[derive(Clone, Copy)]
+#[derive(Clone, Copy, Debug, PartialEq, Eq)]
 pub struct Layout {
     pub tasks: Section,
     pub instructions: Section,
@@ -20,7 +20,7 @@ pub struct Layout {
 }
 
 /// A task row. The script is `length` instructions from the instruction `first` on.
-#[derive(Clone, Copy)]
+#[derive(Clone, Copy, Debug, PartialEq, Eq)]
 pub struct TaskRow {
     pub number: u8,
     pub level: u8,

@@ -35,12 +35,12 @@ fn refused(
     bytes: &[u8],
     number: u8,
     place: usize,
-    layer: &[u8],
+    layer: &str,
 ) -> Result<(), Fail> {
     let Err(fault) = book::check(bytes) else {
         return Err(Fail::new("the book passes"));
     };
-    assert_eq!(rt; fault.cause.number(), number);
+    assert_eq!(rt; u8::from(fault.cause), number);
     assert_eq!(rt; fault.place, place);
     assert!(rt; fault.layer.word() == layer);
     Ok(())
@@ -48,12 +48,12 @@ fn refused(
 
 /// A fault of the header is told, with this number and place.
 fn header_refused(rt: &impl Abort, bytes: &[u8], number: u8, place: usize) -> Result<(), Fail> {
-    refused(rt, bytes, number, place, b"header")
+    refused(rt, bytes, number, place, "header")
 }
 
 /// A fault of a task row is told.
 fn task_refused(rt: &impl Abort, bytes: &[u8], number: u8, place: usize) -> Result<(), Fail> {
-    refused(rt, bytes, number, place, b"task row")
+    refused(rt, bytes, number, place, "task row")
 }
 
 /// The book has no fault.
@@ -88,6 +88,6 @@ fn instruction_fault(rt: &impl Abort, heap: Global, text: &[u8], place: usize) -
         hex(heap, text)?.as_slice(),
         26,
         place,
-        b"instruction row",
+        "instruction row",
     )
 }

@@ -15,7 +15,7 @@ fn check_instruction(bytes: &[u8], layout: Layout, index: u16) -> Result<(), Fau
     ensures { result ≡ (if bad_instruction bytes.now layout index then Err (fault BadInstruction (place_of_instruction layout index)) else Ok tt) }
 {
     let place = layout.instruction_place(index);
-    if Letter::from_byte(bytes[place]).is_none() || bytes[place + 3] != 0 {
+    if Letter::try_from(bytes[place]).is_err() || bytes[place + 3] != 0 {
         return Err(Cause::BadInstruction.at(place));
     }
     Ok(())

@@ -24,9 +24,9 @@ fn is_row(row: Option<&[u8]>, expected: &[u8]) -> bool {
 #[test]
 fn tasks(rt: HostRuntime) -> Result<(), Fail> {
     let bytes = hex(rt.alloc(), BOOK)?;
-    let reading = Book::read(bytes.as_slice());
-    assert!(rt; reading.fault.is_none());
-    let book = reading.book;
+    let Ok(book) = Book::read(bytes.as_slice()) else {
+        return Err(Fail::new("the book has no fault"));
+    };
     assert_eq!(rt; book.task_count(), 2);
     assert_eq!(rt; book.steps(), 7);
     assert!(rt;
@@ -62,12 +62,11 @@ fn rows(rt: HostRuntime) -> Result<(), Fail> {
 fn blank(rt: HostRuntime) -> Result<(), Fail> {
     // Task 1 at level 5, which is refused.
     let bytes = hex(rt.alloc(), b"0001 000C 0000 0012 00000009 01 05 0000 0000")?;
-    let reading = Book::read(bytes.as_slice());
-    let Some(fault) = reading.fault else {
+    let Err(fault) = Book::read(bytes.as_slice()) else {
         return Err(Fail::new("level 5 is refused"));
     };
-    assert!(rt; fault.cause.number() == 24 && fault.place == 12);
-    let book = reading.book;
+    assert!(rt; u8::from(fault.cause) == 24 && fault.place == 12);
+    let book = Book::open(bytes.as_slice());
     assert!(rt; book.task_count() == 1 && book.steps() == 0);
     assert!(rt; book.registered(1) && !book.registered(2));
     assert!(rt; book.level(1) == 4 && book.script_length(1) == 0 && book.row(1, 0).is_none());
@@ -79,13 +78,25 @@ fn blank(rt: HostRuntime) -> Result<(), Fail> {
 fn letters(rt: HostRuntime) {
     let mut known = 0u16;
     for byte in 0..=255u8 {
-        if let Some(letter) = Letter::from_byte(byte) {
-            assert_eq!(rt; letter.byte(), byte);
+        if let Ok(letter) = Letter::try_from(byte) {
+            assert_eq!(rt; u8::from(letter), byte);
             known = known.wrapping_add(1);
         }
     }
     assert_eq!(rt; known, 16);
     for byte in b"RQADTCPSGHUWKMXJ" {
-        assert!(rt; Letter::from_byte(*byte).is_some());
+        assert!(rt; Letter::try_from(*byte).is_ok());
     }
+}
+
+#[test]
+fn told(rt: HostRuntime) -> Result<(), Fail> {
+    // Task 1 at level 5, which is refused.
+    let bytes = hex(rt.alloc(), b"0001 000C 0000 0012 00000009 01 05 0000 0000")?;
+    let Err(fault) = Book::read(bytes.as_slice()) else {
+        return Err(Fail::new("level 5 is refused"));
+    };
+    assert!(rt; format!(in rt.alloc(); "{fault}")?.as_str() == "book 24 12");
+    assert!(rt; format!(in rt.alloc(); "{}", fault.layer)?.as_str() == "task row");
+    Ok(())
 }

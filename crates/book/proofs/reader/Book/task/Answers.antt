@@ -6,4 +6,4 @@ pub find_row-requires : goal.find_row-requires
 find_row-requires c = tasks_held c.args.self
 
 pub read-requires : goal.read-requires
-read-requires c = omega (arith, tasks_held c.args.self, c.in-Some.ensures.bound)
+read-requires c = omega (arith, tasks_held c.args.self, c.in_ok-index.ensures.bound)
