@@ -1,5 +1,5 @@
 -- The search for a task's row.
-use Rattle.std.proofs.Common.{◌≡◌, ℕ, zero, suc, ◌<◌, Bool, true, false, cond, eqb, List, Some, None, Option, sym, refl, ap, subst, inl, inr, arith}
+use Rattle.std.proofs.Common.{◌≡◌, ℕ, zero, suc, ◌<◌, ◌≤◌, Bool, true, false, cond, eqb, List, Some, None, Option, MatchOption, sym, refl, ap, subst, inl, inr, arith}
 use Rattle.std.proofs.lemmas.Bool.{cases_order, eq-eqb, ne_eqb, eqb-true}
 use Rattle.book.specs.declared.sections.Layout.{Layout}
 use Rattle.book.specs.Layout.{number_at, or_else, row_for}
@@ -23,6 +23,13 @@ row_for_hit b l t (suc n) i h none e =
           let ih : row_for b l t n ≡ Some i = row_for_hit b l t n i (elim o [ inl q ↦ q | inr q ↦ absurd (omega arith) ]) none e in
           rw ih
     ]
+
+-- what a search from the first row on finds
+pub row_for_first : (b : List ℕ) (l : Layout) (t n : ℕ) (r : Option ℕ)
+    → MatchOption r ((k : ℕ) → 0 ≤ k → k < n → number_at b l k ≡ t → ⊥) (λ i. (0 ≤ i) × (i < n) × (number_at b l i ≡ t) × ((k : ℕ) → 0 ≤ k → k < i → number_at b l k ≡ t → ⊥))
+    → r ≡ row_for b l t n
+row_for_first b l t n None h = sym (row_for_none b l t n (λ k m. h k (omega arith) m))
+row_for_first b l t n (Some i) h = sym (row_for_hit b l t n i h.1 (λ k m. h.3 k (omega arith) m) h.2)
 
 -- a row that is found is one of the n, and has the number
 more : (b : List ℕ) (l : Layout) (t n k : ℕ) (o : Option ℕ) (z : Bool) → eqb (number_at b l n) t ≡ z

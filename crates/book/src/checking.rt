@@ -1,11 +1,11 @@
 //! The check of a whole book, which tells the first of its faults.
 
-ghost use Rattle.std.specs.Prelude.{◌≡◌, ◌≤◌, length, OnOk};
+ghost use Rattle.std.specs.Prelude.{◌≡◌};
 ghost use Rattle.book.specs.Layout.{layout_of};
 ghost use Rattle.book.specs.Verdict.{Tells, OnlyTells, Framed, size_tests, row_tests, tests, verdict};
 
 use crate::faults::{Cause, Fault};
-use crate::sections::Layout;
+use crate::sections::{Layout, Rows};
 use header::check_header;
 use instructions::check_instructions;
 use tasks::check_tasks;
@@ -22,30 +22,29 @@ pub fn check(bytes: &[u8]) -> Result<Layout, Fault>
 {
     check_size(bytes)?;
     let layout = check_header(bytes)?;
-    check_rows(bytes, layout)?;
+    check_rows(Rows { bytes, layout })?;
     Ok(layout)
 }
 
 fn check_size(bytes: &[u8]) -> Result<(), Fault>
-    ensures told { Tells (size_tests bytes.now) result }
-    ensures sized { OnOk result (12 ≤ length bytes.now) }
+    ensures { Tells (size_tests bytes.now) result }
 {
-    if bytes.len() < 12 || bytes.len() > 65535 {
+    if !(12..=65535).contains(&bytes.len()) {
         return Err(Cause::Size.at(0));
     }
     Ok(())
 }
 
 // The sections in the order of the bytes, so that the first fault found has the lowest place.
-fn check_rows(bytes: &[u8], layout: Layout) -> Result<(), Fault>
-    requires { Framed bytes.now layout }
-    ensures { Tells (row_tests bytes.now layout) result }
+fn check_rows(rows: Rows<'_>) -> Result<(), Fault>
+    requires { Framed rows.bytes.now rows.layout }
+    ensures { Tells (row_tests rows.entry.bytes.now rows.entry.layout) result }
 {
-    if layout.tasks.offset < layout.instructions.offset {
-        check_tasks(bytes, layout)?;
-        check_instructions(bytes, layout)
+    if rows.layout.tasks.offset < rows.layout.instructions.offset {
+        check_tasks(rows)?;
+        check_instructions(rows)
     } else {
-        check_instructions(bytes, layout)?;
-        check_tasks(bytes, layout)
+        check_instructions(rows)?;
+        check_tasks(rows)
     }
 }

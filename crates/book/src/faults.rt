@@ -62,7 +62,7 @@ impl From<Cause> for u8 {
 
 impl Cause {
     /// The fault of this cause at a byte place.
-    pub(crate) fn at(self, place: usize) -> Fault
+    pub(crate) fn at(self, place: u32) -> Fault
         ensures { result ≡ fault self place }
     {
         let layer = match self {
@@ -72,7 +72,7 @@ impl Cause {
         };
         Fault {
             cause: self,
-            place,
+            place: place as usize,
             layer,
         }
     }

@@ -8,7 +8,7 @@ ghost use Rattle.book.specs.Reader.{count_in, steps_in, task_in, registered_in, 
 
 use crate::checking::check;
 use crate::faults::Fault;
-use crate::sections::{Layout, Section, TaskRow, find_row};
+use crate::sections::{Layout, Rows, Section, TaskRow};
 
 static BLANK: [u8; 18] = [0, 1, 0, 12, 0, 0, 0, 18, 0, 0, 0, 0, 1, 4, 0, 0, 0, 0];
 
@@ -79,9 +79,12 @@ impl<'a> Book<'a> {
     pub fn task(self, task: u8) -> Option<TaskRow>
         ensures { result ≡ task_in self.entry.bytes.now task }
     {
-        let layout = self.layout;
-        let index = find_row(self.bytes, layout, task, layout.tasks.count)?;
-        Some(TaskRow::read(self.bytes, layout, index))
+        let rows = Rows {
+            bytes: self.bytes,
+            layout: self.layout,
+        };
+        let index = rows.find(task, rows.layout.tasks.count)?;
+        Some(rows.task(index))
     }
 
     /// Whether a task has a row.
@@ -114,7 +117,7 @@ impl<'a> Book<'a> {
         if index >= script.length as usize {
             return None;
         }
-        let start = self.layout.instruction_place(script.first + index as u16);
+        let start = self.layout.instructions.place(script.first + index as u16) as usize;
         Some(&self.bytes[start..start + 12])
     }
 }

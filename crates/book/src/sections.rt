@@ -1,12 +1,14 @@
 //! How a book lies in its bytes: the two sections that its header names, and the task rows.
 
-ghost use Rattle.std.specs.Prelude.{◌≡◌, ◌+◌, ◌<◌, ◌≤◌, length, IfSome};
-ghost use Rattle.book.specs.Numbers.{be16, be32};
-ghost use Rattle.book.specs.Layout.{layout_of, place_of_task, end_of_tasks, place_of_instruction, end_of_instructions, task_at, row_for};
+ghost use Rattle.std.specs.Prelude.{◌≡◌, ◌+◌, ◌*◌};
+ghost use Rattle.book.specs.Layout.{layout_of, task_at, row_for, numbered};
+ghost use Rattle.book.specs.Verdict.{astray};
 
-/// Rows of one kind, one after the other: where they begin, and how many they are.
+use crate::numbers::{byte_at, u16_at, u32_at};
+
+/// Rows of one kind, of `ROW` bytes each, one after the other: where they begin, and how many they are.
 #[derive(Clone, Copy, Debug, PartialEq, Eq)]
-pub struct Section {
+pub struct Section<const ROW: u16> {
     pub offset: u16,
     pub count: u16,
 }
@@ -14,8 +16,8 @@ pub struct Section {
 /// What a header says: the two sections, and for how many steps a runner runs.
 #[derive(Clone, Copy, Debug, PartialEq, Eq)]
 pub struct Layout {
-    pub tasks: Section,
-    pub instructions: Section,
+    pub tasks: Section<6>,
+    pub instructions: Section<12>,
     pub steps: u32,
 }
 
@@ -28,94 +30,82 @@ pub struct TaskRow {
     pub length: u16,
 }
 
-fn read_u16(bytes: &[u8], place: usize) -> u16
-    requires { place + 2 ≤ length bytes.now }
-    ensures { result ≡ be16 bytes.now place }
-{
-    256 * bytes[place] as u16 + bytes[place + 1] as u16
+/// The bytes of a book, with the layout by which their rows are read.
+#[derive(Clone, Copy)]
+pub(crate) struct Rows<'a> {
+    pub(crate) bytes: &'a [u8],
+    pub(crate) layout: Layout,
 }
 
-fn read_u32(bytes: &[u8], place: usize) -> u32
-    requires { place + 4 ≤ length bytes.now }
-    ensures { result ≡ be32 bytes.now place }
-{
-    65536 * read_u16(bytes, place) as u32 + read_u16(bytes, place + 2) as u32
+impl<const ROW: u16> Section<ROW> {
+    /// The byte at which a row begins.
+    pub(crate) fn place(self, index: u16) -> u32
+        ensures { result ≡ self.entry.offset + ROW * index }
+    {
+        self.offset as u32 + ROW as u32 * index as u32
+    }
+
+    /// The byte behind the last row.
+    pub(crate) fn end(self) -> u32
+        ensures { result ≡ self.entry.offset + ROW * self.entry.count }
+    {
+        self.place(self.count)
+    }
+
+    /// Whether the section begins within the header or ends past the book.
+    pub(crate) fn is_astray(self, bytes: &[u8]) -> bool
+        ensures { result ≡ astray bytes.now self.entry.offset (self.entry.offset + ROW * self.entry.count) }
+    {
+        self.offset < 12 || self.end() as usize > bytes.len()
+    }
 }
 
 impl Layout {
     /// What the first twelve bytes say, whether it is in range or not.
     pub(crate) fn read(bytes: &[u8]) -> Layout
-        requires { 12 ≤ length bytes.now }
         ensures { result ≡ layout_of bytes.now }
     {
         Layout {
             tasks: Section {
-                count: read_u16(bytes, 0),
-                offset: read_u16(bytes, 2),
+                count: u16_at(bytes, 0),
+                offset: u16_at(bytes, 2),
             },
             instructions: Section {
-                count: read_u16(bytes, 4),
-                offset: read_u16(bytes, 6),
+                count: u16_at(bytes, 4),
+                offset: u16_at(bytes, 6),
             },
-            steps: read_u32(bytes, 8),
+            steps: u32_at(bytes, 8),
         }
-    }
-
-    /// The byte at which a task row begins.
-    pub(crate) fn task_place(self, index: u16) -> usize
-        ensures { result ≡ place_of_task self index }
-    {
-        self.tasks.offset as usize + 6 * index as usize
-    }
-
-    /// The byte at which an instruction row begins.
-    pub(crate) fn instruction_place(self, index: u16) -> usize
-        ensures { result ≡ place_of_instruction self index }
-    {
-        self.instructions.offset as usize + 12 * index as usize
-    }
-
-    /// The byte behind the last task row.
-    pub(crate) fn task_end(self) -> usize
-        ensures { result ≡ end_of_tasks self }
-    {
-        self.task_place(self.tasks.count)
-    }
-
-    /// The byte behind the last instruction row.
-    pub(crate) fn instruction_end(self) -> usize
-        ensures { result ≡ end_of_instructions self }
-    {
-        self.instruction_place(self.instructions.count)
     }
 }
 
-impl TaskRow {
+impl Rows<'_> {
     /// One of the task rows.
-    pub(crate) fn read(bytes: &[u8], layout: Layout, index: u16) -> TaskRow
-        requires { place_of_task layout (index + 1) ≤ length bytes.now }
-        ensures { result ≡ task_at bytes.now layout index }
+    pub(crate) fn task(self, index: u16) -> TaskRow
+        ensures { result ≡ task_at self.entry.bytes.now self.entry.layout index }
     {
-        let place = layout.task_place(index);
+        let place = self.layout.tasks.place(index);
         TaskRow {
-            number: bytes[place],
-            level: bytes[place + 1],
-            first: read_u16(bytes, place + 2),
-            length: read_u16(bytes, place + 4),
+            number: byte_at(self.bytes, place as usize),
+            level: byte_at(self.bytes, place as usize + 1),
+            first: u16_at(self.bytes, place + 2),
+            length: u16_at(self.bytes, place + 4),
         }
     }
-}
 
-/// The first of the task rows below `below` that is for the task `number`.
-pub(crate) fn find_row(bytes: &[u8], layout: Layout, number: u8, below: u16) -> Option<u16>
-    requires { place_of_task layout below ≤ length bytes.now }
-    ensures value { result ≡ row_for bytes.now layout number below }
-    ensures bound { IfSome result (λ k. k < below) }
-{
-    for i in 0..below {
-        if bytes[layout.task_place(i)] == number {
-            return Some(i);
-        }
+    /// The first of the task rows below `below` that is for the task `number`.
+    pub(crate) fn find(self, number: u8, below: u16) -> Option<u16>
+        ensures { result ≡ row_for self.entry.bytes.now self.entry.layout number below }
+    {
+        (0..below).find(|&index| {
+            byte_at(self.bytes, self.layout.tasks.place(index) as usize) == number
+        })
     }
-    None
+
+    /// Whether one of the task rows below `below` is for the task `number`.
+    pub(crate) fn is_numbered(self, number: u8, below: u16) -> bool
+        ensures { result ≡ numbered self.entry.bytes.now self.entry.layout number below }
+    {
+        self.find(number, below).is_some()
+    }
 }

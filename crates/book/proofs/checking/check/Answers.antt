@@ -9,7 +9,7 @@ returns-in_err-check_size c =
     let b = c.args.bytes.now in
     let v =
     verdict_err b _ _ (err_from_is_err_and c.from_residual.result c.from_residual.ensures.1)
-    (tells_size b (layout_of b) _ c.in_err-check_size.ensures.told) in
+    (tells_size b (layout_of b) _ c.in_err-check_size.ensures) in
     record { value = v; first = first_is_told b _ v; only = only_told b _ v }
 
 pub returns-in_err-layout : goal.returns-in_err-layout
@@ -17,7 +17,7 @@ returns-in_err-layout c =
     let b = c.args.bytes.now in
     let v =
     verdict_err b _ _ (err_from_is_err_and c.from_residual-in_err-layout.result c.from_residual-in_err-layout.ensures.1)
-    (tells_header b (layout_of b) _ c.in_ok-check_size.ensures.told c.in_err-layout.ensures.told) in
+    (tells_header b (layout_of b) _ c.in_ok-check_size.ensures c.in_err-layout.ensures.told) in
     record { value = v; first = first_is_told b _ v; only = only_told b _ v }
 
 pub returns-in_err-check_rows : goal.returns-in_err-check_rows
@@ -26,7 +26,7 @@ returns-in_err-check_rows c =
     let v =
     verdict_err b _ _ (err_from_is_err_and c.from_residual-in_err-check_rows.result c.from_residual-in_err-check_rows.ensures.1)
     (tells_rows b c.in_ok-layout.layout (layout_of b) _ c.in_ok-layout.ensures.layout
-    c.in_ok-check_size.ensures.told c.in_ok-layout.ensures.told c.in_err-check_rows.ensures) in
+    c.in_ok-check_size.ensures c.in_ok-layout.ensures.told c.in_err-check_rows.ensures) in
     record { value = v; first = first_is_told b _ v; only = only_told b _ v }
 
 pub returns : goal.returns
@@ -35,5 +35,5 @@ returns c =
     let v =
     verdict_ok b c.in_ok-layout.layout c.in_ok-layout.ensures.layout
     (tells_none b c.in_ok-layout.layout (layout_of b) c.in_ok-layout.ensures.layout
-    c.in_ok-check_size.ensures.told c.in_ok-layout.ensures.told c.in_ok-check_rows.ensures) in
+    c.in_ok-check_size.ensures c.in_ok-layout.ensures.told c.in_ok-check_rows.ensures) in
     record { value = v; first = first_is_told b _ v; only = only_told b _ v }

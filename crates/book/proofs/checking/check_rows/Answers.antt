@@ -5,18 +5,18 @@ use Rattle.book.proofs.checking.check_rows.Goals as goal
 
 pub returns-in_err-check_tasks : goal.returns-in_err-check_tasks
 returns-in_err-check_tasks c =
-    at_exit (row_tests c.args.bytes.now c.args.layout) _ _ (err_from_is_err_and c.from_residual.result c.from_residual.ensures.1)
-    (rows_tasks c.args.bytes.now c.args.layout _ c.requires c.if-layout.true c.in_err-check_tasks.ensures)
+    at_exit (row_tests c.args.rows.bytes.now c.args.rows.layout) _ _ (err_from_is_err_and c.from_residual.result c.from_residual.ensures.1)
+    (rows_tasks c.args.rows.bytes.now c.args.rows.layout _ c.requires c.if-rows.true c.in_err-check_tasks.ensures)
 
 pub returns-in_err-check_instructions : goal.returns-in_err-check_instructions
 returns-in_err-check_instructions c =
-    at_exit (row_tests c.args.bytes.now c.args.layout) _ _ (err_from_is_err_and c.from_residual-in_err-check_instructions.result c.from_residual-in_err-check_instructions.ensures.1)
-    (rows_instructions c.args.bytes.now c.args.layout _ c.requires c.if-layout.false c.in_err-check_instructions.ensures)
+    at_exit (row_tests c.args.rows.bytes.now c.args.rows.layout) _ _ (err_from_is_err_and c.from_residual-in_err-check_instructions.result c.from_residual-in_err-check_instructions.ensures.1)
+    (rows_instructions c.args.rows.bytes.now c.args.rows.layout _ c.requires c.if-rows.false c.in_err-check_instructions.ensures)
 
 pub returns-in_ok-check_tasks : goal.returns-in_ok-check_tasks
 returns-in_ok-check_tasks c =
-    tells_second (task_tests c.args.bytes.now c.args.layout) (instruction_tests c.args.bytes.now c.args.layout) _ c.in_ok-check_tasks.ensures c.check_instructions.ensures
+    tells_second (task_tests c.args.rows.bytes.now c.args.rows.layout) (instruction_tests c.args.rows.bytes.now c.args.rows.layout) _ c.in_ok-check_tasks.ensures c.check_instructions.ensures
 
 pub returns-in_ok-check_instructions : goal.returns-in_ok-check_instructions
 returns-in_ok-check_instructions c =
-    tells_first (task_tests c.args.bytes.now c.args.layout) (instruction_tests c.args.bytes.now c.args.layout) _ c.in_ok-check_instructions.ensures c.check_tasks-else-layout.ensures
+    tells_first (task_tests c.args.rows.bytes.now c.args.rows.layout) (instruction_tests c.args.rows.bytes.now c.args.rows.layout) _ c.in_ok-check_instructions.ensures c.check_tasks-else-rows.ensures

@@ -9,21 +9,21 @@ use Rattle.book.proofs.checking.tasks.check_tasks.Goals as goal
 
 pub returns-in_err-and : goal.returns-in_err-and
 returns-in_err-and c =
-    at_exit (task_tests c.args.bytes.now c.args.layout) _ _ (err_from_is_err_and c.from_residual.result c.from_residual.ensures.1)
-    (tasks_head c.args.bytes.now c.args.layout _ c.requires.some
+    at_exit (task_tests c.args.rows.bytes.now c.args.rows.layout) _ _ (err_from_is_err_and c.from_residual.result c.from_residual.ensures.1)
+    (tasks_head c.args.rows.bytes.now c.args.rows.layout _ c.requires.some
     (and_err _ _ _ _ _ _ _ _ _ c.check_task-first.ensures c.check_task_one-task_one.ensures c.in_err-and.ensures))
 
 pub loop-i-init : goal.loop-i-init
 loop-i-init c =
-    below_one c.args.bytes.now c.args.layout
+    below_one c.args.rows.bytes.now c.args.rows.layout
     (and_ok _ _ _ _ _ _ _ _ _ c.check_task-first.ensures c.check_task_one-task_one.ensures c.in_ok-and.ensures).0
 
 pub returns-in_err-check_task : goal.returns-in_err-check_task
 returns-in_err-check_task c =
-    at_row_exit (task_tests c.args.bytes.now c.args.layout) _ _ _ _ _
+    at_row_exit (task_tests c.args.rows.bytes.now c.args.rows.layout) _ _ _ _ _
     (err_from_is_err_and c.from_residual-in_err-check_task.result c.from_residual-in_err-check_task.ensures.1)
     c.in_err-check_task.ensures
-    (tasks_later c.args.bytes.now c.args.layout c.loop-i.i c.loop-i-test.true c.loop-i.invariant
+    (tasks_later c.args.rows.bytes.now c.args.rows.layout c.loop-i.i c.loop-i-test.true c.loop-i.invariant
     (not-false _ (and_ok _ _ _ _ _ _ _ _ _ c.check_task-first.ensures c.check_task_one-task_one.ensures c.in_ok-and.ensures).1))
 
 pub loop-i-preserved : goal.loop-i-preserved
@@ -31,5 +31,5 @@ loop-i-preserved c = below_more _ _ c.loop-i.invariant (ok_passes _ _ _ _ c.in_o
 
 pub returns : goal.returns
 returns c =
-    tasks_none _ c.args.layout (λ k h. c.loop-i.invariant k (omega arith))
+    tasks_none _ c.args.rows.layout (λ k h. c.loop-i.invariant k (omega arith))
     (not-false _ (and_ok _ _ _ _ _ _ _ _ _ c.check_task-first.ensures c.check_task_one-task_one.ensures c.in_ok-and.ensures).1)
