@@ -9,7 +9,7 @@ use Rattle.book.specs.Numbers.{outside}
 use Rattle.book.specs.Letters.{known}
 use Rattle.book.specs.Layout.{layout_of, place_of_task, end_of_tasks, place_of_instruction, end_of_instructions, number_at, level_at, first_at, length_at, task_at, row_for, numbered}
 use Rattle.book.specs.Faults.{fault}
-use Rattle.book.specs.Verdict.{Test, Faultless, told, clean, astray, bad_task, bad_instruction, tests, size_tests, header_tests, row_tests, task_test, task_tests, instruction_test, instruction_tests}
+use Rattle.book.specs.Verdict.{Test, Faultless, Framed, told, clean, astray, overlap, bad_task, bad_instruction, tests, size_tests, header_tests, row_tests, task_test, task_tests, instruction_test, instruction_tests}
 use Rattle.book.specs.Reader.{count_in, steps_in, row_at, task_in, registered_in, level_of, level_in, length_of, length_in, place_of, script_place, or_blank, opened, blank_bytes}
 use Rattle.book.proofs.Search.{row_for_some}
 use Rattle.book.proofs.Found.{in_left, in_right, in_row}
@@ -81,6 +81,15 @@ pub steps_range : (b : List ℕ) → Clean b → steps_in b ≤ 1000000
 steps_range b s =
     let p : outside 0 1000000 (steps_in b) ≡ false = passed _ (λ e. header_passed b s (fault Range 8) (inr (inr (inl (e, refl))))) in
     ltb-false 1000000 (steps_in b) (or_parts (ltb (steps_in b) 0) (ltb 1000000 (steps_in b)) p).1
+
+-- so the header of a book without faults has none
+pub framed : (b : List ℕ) → Clean b → Framed b (layout_of b)
+framed b s = record {
+  some = (count_range b s).0;
+  tasks = tasks_within b s;
+  instructions = instructions_within b s;
+  apart = passed (overlap (layout_of b)) (λ e. header_passed b s (fault Sections 6) (inr (inr (inr (inr (inr (inl (e, refl))))))));
+}
 
 -- a row without faults
 pub record RowFits (b : List ℕ) (t : ℕ) (r : TaskRow) : Type 0 where

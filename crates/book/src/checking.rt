@@ -2,10 +2,11 @@
 
 ghost use Rattle.std.specs.Prelude.{◌≡◌};
 ghost use Rattle.book.specs.Layout.{layout_of};
-ghost use Rattle.book.specs.Verdict.{Tells, OnlyTells, Framed, size_tests, row_tests, tests, verdict};
+ghost use Rattle.book.specs.Verdict.{Tells, OnlyTells, size_tests, row_tests, tests, verdict};
 
 use crate::faults::{Cause, Fault};
-use crate::sections::{Layout, Rows};
+use crate::rows::Rows;
+use crate::sections::Layout;
 use header::check_header;
 use instructions::check_instructions;
 use tasks::check_tasks;
@@ -37,7 +38,6 @@ fn check_size(bytes: &[u8]) -> Result<(), Fault>
 
 // The sections in the order of the bytes, so that the first fault found has the lowest place.
 fn check_rows(rows: Rows<'_>) -> Result<(), Fault>
-    requires { Framed rows.bytes.now rows.layout }
     ensures { Tells (row_tests rows.entry.bytes.now rows.entry.layout) result }
 {
     if rows.layout.tasks.offset < rows.layout.instructions.offset {

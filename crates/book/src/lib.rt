@@ -1,6 +1,6 @@
 //! The task book: the bytes that say which tasks a station has, and what each does when it runs.
 //!
-//! A header names two sections, the task rows and the instruction rows (`sections`, `letters`, `numbers`).
+//! A header names two sections, the task rows and the instruction rows (`sections`, `rows`, `letters`, `numbers`).
 //! `check` tells the first fault of a book (`checking`, `faults`); `Book` reads one that has none (`reader`).
 
 #![tactic(auto)]
@@ -10,6 +10,7 @@ mod faults;
 mod letters;
 mod numbers;
 mod reader;
+mod rows;
 mod sections;
 
 pub use checking::check;

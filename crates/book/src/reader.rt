@@ -2,13 +2,14 @@
 
 ghost use Rattle.std.specs.Prelude.{◌≡◌, true, length, IfSome, None, IfOk};
 ghost use Rattle.std.specs.Result.{result_err};
-ghost use Rattle.book.specs.Numbers.{be16, be32};
+ghost use Rattle.book.specs.Layout.{layout_of};
 ghost use Rattle.book.specs.Verdict.{told, clean};
 ghost use Rattle.book.specs.Reader.{count_in, steps_in, task_in, registered_in, level_in, length_in, script_place, Handed, blank_bytes, opened};
 
 use crate::checking::check;
 use crate::faults::Fault;
-use crate::sections::{Layout, Rows, Section, TaskRow};
+use crate::rows::Rows;
+use crate::sections::{Layout, Section, TaskRow};
 
 static BLANK: [u8; 18] = [0, 1, 0, 12, 0, 0, 0, 18, 0, 0, 0, 0, 1, 4, 0, 0, 0, 0];
 
@@ -18,9 +19,7 @@ pub struct Book<'a> {
     bytes: &'a [u8],
     layout: Layout,
     ghost sound: { clean (told bytes.now) ≡ true },
-    ghost tasks: { (layout.tasks.count ≡ be16 bytes.now 0) × (layout.tasks.offset ≡ be16 bytes.now 2) },
-    ghost instructions: { (layout.instructions.count ≡ be16 bytes.now 4) × (layout.instructions.offset ≡ be16 bytes.now 6) },
-    ghost steps: { layout.steps ≡ be32 bytes.now 8 },
+    ghost laid: { layout ≡ layout_of bytes.now },
 }
 
 impl<'a> Book<'a> {

@@ -1,10 +1,10 @@
-//! How a book lies in its bytes: the two sections that its header names, and the task rows.
+//! How a book lies in its bytes: the two sections that its header names.
 
 ghost use Rattle.std.specs.Prelude.{◌≡◌, ◌+◌, ◌*◌};
-ghost use Rattle.book.specs.Layout.{layout_of, task_at, row_for, numbered};
+ghost use Rattle.book.specs.Layout.{layout_of};
 ghost use Rattle.book.specs.Verdict.{astray};
 
-use crate::numbers::{byte_at, u16_at, u32_at};
+use crate::numbers::{u16_at, u32_at};
 
 /// Rows of one kind, of `ROW` bytes each, one after the other: where they begin, and how many they are.
 #[derive(Clone, Copy, Debug, PartialEq, Eq)]
@@ -28,13 +28,6 @@ pub struct TaskRow {
     pub level: u8,
     pub first: u16,
     pub length: u16,
-}
-
-/// The bytes of a book, with the layout by which their rows are read.
-#[derive(Clone, Copy)]
-pub(crate) struct Rows<'a> {
-    pub(crate) bytes: &'a [u8],
-    pub(crate) layout: Layout,
 }
 
 impl<const ROW: u16> Section<ROW> {
@@ -76,36 +69,5 @@ impl Layout {
             },
             steps: u32_at(bytes, 8),
         }
-    }
-}
-
-impl Rows<'_> {
-    /// One of the task rows.
-    pub(crate) fn task(self, index: u16) -> TaskRow
-        ensures { result ≡ task_at self.entry.bytes.now self.entry.layout index }
-    {
-        let place = self.layout.tasks.place(index);
-        TaskRow {
-            number: byte_at(self.bytes, place as usize),
-            level: byte_at(self.bytes, place as usize + 1),
-            first: u16_at(self.bytes, place + 2),
-            length: u16_at(self.bytes, place + 4),
-        }
-    }
-
-    /// The first of the task rows below `below` that is for the task `number`.
-    pub(crate) fn find(self, number: u8, below: u16) -> Option<u16>
-        ensures { result ≡ row_for self.entry.bytes.now self.entry.layout number below }
-    {
-        (0..below).find(|&index| {
-            byte_at(self.bytes, self.layout.tasks.place(index) as usize) == number
-        })
-    }
-
-    /// Whether one of the task rows below `below` is for the task `number`.
-    pub(crate) fn is_numbered(self, number: u8, below: u16) -> bool
-        ensures { result ≡ numbered self.entry.bytes.now self.entry.layout number below }
-    {
-        self.find(number, below).is_some()
     }
 }

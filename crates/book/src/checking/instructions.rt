@@ -9,7 +9,7 @@ ghost use Rattle.book.specs.Verdict.{Tells, bad_instruction, instruction_tests};
 use crate::faults::{Cause, Fault};
 use crate::letters::Letter;
 use crate::numbers::byte_at;
-use crate::sections::Rows;
+use crate::rows::Rows;
 
 fn check_instruction(rows: Rows<'_>, index: u16) -> Result<(), Fault>
     ensures { result ≡ (if bad_instruction rows.entry.bytes.now rows.entry.layout index then Err (fault BadInstruction (place_of_instruction rows.entry.layout index)) else Ok tt) }

@@ -4,10 +4,10 @@ ghost use Rattle.std.specs.Prelude.{◌≡◌, not, if◌then◌else◌, Ok, Err
 ghost use Rattle.book.specs.declared.faults.Cause.TheVariants.{BadTask, NoTaskOne};
 ghost use Rattle.book.specs.Layout.{place_of_task, numbered};
 ghost use Rattle.book.specs.Faults.{fault};
-ghost use Rattle.book.specs.Verdict.{Tells, Framed, bad_task, task_tests};
+ghost use Rattle.book.specs.Verdict.{Tells, bad_task, task_tests};
 
 use crate::faults::{Cause, Fault};
-use crate::sections::Rows;
+use crate::rows::Rows;
 
 fn check_task(rows: Rows<'_>, index: u16) -> Result<(), Fault>
     ensures { result ≡ (if bad_task rows.entry.bytes.now rows.entry.layout index then Err (fault BadTask (place_of_task rows.entry.layout index)) else Ok tt) }
@@ -33,7 +33,6 @@ fn check_task_one(rows: Rows<'_>) -> Result<(), Fault>
 }
 
 pub(super) fn check_tasks(rows: Rows<'_>) -> Result<(), Fault>
-    requires { Framed rows.bytes.now rows.layout }
     ensures { Tells (task_tests rows.entry.bytes.now rows.entry.layout) result }
 {
     // A missing row for task 1 is told at the offset of the section. The first row lies there too, and its

@@ -10,7 +10,7 @@ use Rattle.book.proofs.checking.tasks.check_tasks.Goals as goal
 pub returns-in_err-and : goal.returns-in_err-and
 returns-in_err-and c =
     at_exit (task_tests c.args.rows.bytes.now c.args.rows.layout) _ _ (err_from_is_err_and c.from_residual.result c.from_residual.ensures.1)
-    (tasks_head c.args.rows.bytes.now c.args.rows.layout _ c.requires.some
+    (tasks_head c.args.rows.bytes.now c.args.rows.layout _ c.args.rows.framed.some
     (and_err _ _ _ _ _ _ _ _ _ c.check_task-first.ensures c.check_task_one-task_one.ensures c.in_err-and.ensures))
 
 pub loop-i-init : goal.loop-i-init

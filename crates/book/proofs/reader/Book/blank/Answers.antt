@@ -3,4 +3,4 @@ use Rattle.book.proofs.Clean.{blank_clean}
 use Rattle.book.proofs.reader.Book.blank.Goals as goal
 
 pub invariant_of-result : goal.invariant_of-result
-invariant_of-result c = record { sound = blank_clean; tasks = (refl, refl); instructions = (refl, refl); steps = refl }
+invariant_of-result c = record { sound = blank_clean; laid = refl }

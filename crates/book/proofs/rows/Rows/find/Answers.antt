@@ -3,7 +3,7 @@ use borrow.Author.Tests.{tests}
 use Rattle.std.proofs.lemmas.Iterator.{first_from_Range}
 use Rattle.book.specs.Layout.{number_at}
 use Rattle.book.proofs.Search.{row_for_first}
-use Rattle.book.proofs.sections.Rows.find.Goals as goal
+use Rattle.book.proofs.rows.Rows.find.Goals as goal
 
 pub returns : goal.returns
 returns c =
