@@ -1,9 +1,8 @@
 -- What a book knows of itself.
-use Rattle.std.proofs.Common.{◌≡◌, ℕ, ◌+◌, ◌≤◌, length, Some, sym, subst}
+use Rattle.std.proofs.Common.{◌≡◌, ℕ, ◌+◌, ◌≤◌, Some, sym, subst}
 use Rattle.book.specs.declared.sections.Layout.{Layout}
 use Rattle.book.specs.declared.sections.TaskRow.{TaskRow}
 use Rattle.book.specs.declared.reader.Book.{Book}
-use Rattle.book.specs.Layout.{end_of_instructions}
 use Rattle.book.specs.Verdict.{Framed}
 use Rattle.book.specs.Reader.{task_in}
 use Rattle.book.proofs.Clean.{framed, task_fits}
@@ -11,9 +10,6 @@ use Rattle.book.proofs.Clean.{framed, task_fits}
 -- the sections lie within the bytes of a book, and its scripts within the instructions
 pub framed_held : (k : Book) → Framed k.bytes.now k.layout
 framed_held k = subst (λ (l : Layout). Framed k.bytes.now l) (sym k.laid) (framed k.bytes.now k.sound)
-
-pub instructions_held : (k : Book) → end_of_instructions k.layout ≤ length k.bytes.now
-instructions_held k = (framed_held k).instructions
 
 pub script_held : (k : Book) (t : ℕ) (r : TaskRow) → Some r ≡ task_in k.bytes.now t → r.first + r.length ≤ k.layout.instructions.count
 script_held k t r e =

@@ -9,7 +9,7 @@ ghost use Rattle.book.specs.Reader.{count_in, steps_in, task_in, registered_in, 
 use crate::checking::check;
 use crate::faults::Fault;
 use crate::rows::Rows;
-use crate::sections::{Layout, Section, TaskRow};
+use crate::sections::{Layout, TaskRow};
 
 static BLANK: [u8; 18] = [0, 1, 0, 12, 0, 0, 0, 18, 0, 0, 0, 0, 1, 4, 0, 0, 0, 0];
 
@@ -41,22 +41,13 @@ impl<'a> Book<'a> {
     }
 
     /// The book with task 1 alone, at level 4, without instructions or steps.
+    #[tactic(auto, using(crate::proofs::Clean::blank_clean))]
     fn blank() -> Book<'a>
         ensures { result.bytes.now ≡ blank_bytes }
     {
         Book {
             bytes: &BLANK,
-            layout: Layout {
-                tasks: Section {
-                    offset: 12,
-                    count: 1,
-                },
-                instructions: Section {
-                    offset: 18,
-                    count: 0,
-                },
-                steps: 0,
-            },
+            layout: Layout::read(&BLANK),
         }
     }
 
@@ -75,6 +66,7 @@ impl<'a> Book<'a> {
     }
 
     /// The row of a task, if it is registered.
+    #[tactic(auto, using(crate::proofs::Held::framed_held))]
     pub fn task(self, task: u8) -> Option<TaskRow>
         ensures { result ≡ task_in self.entry.bytes.now task }
     {

@@ -13,11 +13,6 @@ returns-in_err-and c =
     (tasks_head c.args.rows.bytes.now c.args.rows.layout _ c.args.rows.framed.some
     (and_err _ _ _ _ _ _ _ _ _ c.check_task-first.ensures c.check_task_one-task_one.ensures c.in_err-and.ensures))
 
-pub loop-i-init : goal.loop-i-init
-loop-i-init c =
-    below_one c.args.rows.bytes.now c.args.rows.layout
-    (and_ok _ _ _ _ _ _ _ _ _ c.check_task-first.ensures c.check_task_one-task_one.ensures c.in_ok-and.ensures).0
-
 pub returns-in_err-check_task : goal.returns-in_err-check_task
 returns-in_err-check_task c =
     at_row_exit (task_tests c.args.rows.bytes.now c.args.rows.layout) _ _ _ _ _
@@ -25,9 +20,6 @@ returns-in_err-check_task c =
     c.in_err-check_task.ensures
     (tasks_later c.args.rows.bytes.now c.args.rows.layout c.loop-i.i c.loop-i-test.true c.loop-i.invariant
     (not-false _ (and_ok _ _ _ _ _ _ _ _ _ c.check_task-first.ensures c.check_task_one-task_one.ensures c.in_ok-and.ensures).1))
-
-pub loop-i-preserved : goal.loop-i-preserved
-loop-i-preserved c = below_more _ _ c.loop-i.invariant (ok_passes _ _ _ _ c.in_ok-check_task.ensures)
 
 pub returns : goal.returns
 returns c =
