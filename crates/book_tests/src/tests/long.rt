@@ -1,9 +1,11 @@
 //! Long books, at the edges of the counts and of the size.
 
-use super::{header_refused, task_refused};
+use super::{passes, refused};
 use std::alloc::{AllocError, Global};
-use std::process::Abort;
 use std::test::Fail;
+
+/// An instruction that ends the run.
+const EXIT: &[u8] = b"X\0\0\0\0\0\0\0\0\0\0\0";
 
 /// Counts and offsets as the header has them: tasks, their offset, instructions, their offset.
 fn header(heap: Global, fields: [u16; 4]) -> Result<Vec<u8>, AllocError> {
@@ -24,23 +26,12 @@ fn add_tasks(bytes: &mut Vec<u8>, last: u8) -> Result<(), AllocError> {
     Ok(())
 }
 
-/// Instructions that end the run.
-fn add_exits(bytes: &mut Vec<u8>, count: u16) -> Result<(), AllocError> {
+/// The same bytes so many times.
+fn add_times(bytes: &mut Vec<u8>, row: &[u8], count: u16) -> Result<(), AllocError> {
     for _ in 0..count {
-        bytes.extend_from_slice(b"X\0\0\0\0\0\0\0\0\0\0\0")?;
+        bytes.extend_from_slice(row)?;
     }
     Ok(())
-}
-
-fn add_zeros(bytes: &mut Vec<u8>, count: u16) -> Result<(), AllocError> {
-    for _ in 0..count {
-        bytes.push(0)?;
-    }
-    Ok(())
-}
-
-fn passes(rt: &impl Abort, bytes: &[u8]) {
-    assert!(rt; book::check(bytes).is_ok());
 }
 
 #[test]
@@ -51,12 +42,12 @@ fn tasks(rt: HostRuntime) -> Result<(), Fail> {
     passes(&rt, most.as_slice());
     let mut over = header(rt.alloc(), [128, 12, 0, 780])?;
     add_tasks(&mut over, 128)?;
-    header_refused(&rt, over.as_slice(), 22, 0)?;
+    refused(&rt, over.as_slice(), "header", 22, 0)?;
     // The last row has a number that the first row has used.
     let mut twice = header(rt.alloc(), [127, 12, 0, 774])?;
     add_tasks(&mut twice, 126)?;
     add_tasks(&mut twice, 1)?;
-    task_refused(&rt, twice.as_slice(), 24, 768)
+    refused(&rt, twice.as_slice(), "task row", 24, 768)
 }
 
 #[test]
@@ -64,27 +55,27 @@ fn instructions(rt: HostRuntime) -> Result<(), Fail> {
     // One script of all 4,096, which is hexadecimal 1000.
     let mut most = header(rt.alloc(), [1, 12, 4096, 18])?;
     most.extend_from_slice(b"\x01\x04\0\0\x10\0")?;
-    add_exits(&mut most, 4096)?;
+    add_times(&mut most, EXIT, 4096)?;
     passes(&rt, most.as_slice());
     let mut over = header(rt.alloc(), [1, 12, 4097, 18])?;
     over.extend_from_slice(b"\x01\x04\0\0\x10\0")?;
-    add_exits(&mut over, 4097)?;
-    header_refused(&rt, over.as_slice(), 22, 4)?;
+    add_times(&mut over, EXIT, 4097)?;
+    refused(&rt, over.as_slice(), "header", 22, 4)?;
     // From instruction 1 on there are 4,095.
     let mut script = header(rt.alloc(), [1, 12, 4096, 18])?;
     script.extend_from_slice(b"\x01\x04\0\x01\x10\0")?;
-    add_exits(&mut script, 4096)?;
-    task_refused(&rt, script.as_slice(), 24, 12)
+    add_times(&mut script, EXIT, 4096)?;
+    refused(&rt, script.as_slice(), "task row", 24, 12)
 }
 
 #[test]
 fn bytes(rt: HostRuntime) -> Result<(), Fail> {
     // The task row is the book's last six bytes, and the empty section lies at its end.
     let mut most = header(rt.alloc(), [1, 65529, 0, 65535])?;
-    add_zeros(&mut most, 65517)?;
+    add_times(&mut most, b"\0", 65517)?;
     add_tasks(&mut most, 1)?;
     assert!(rt; most.len() == 65535);
     passes(&rt, most.as_slice());
     most.push(0)?;
-    header_refused(&rt, most.as_slice(), 21, 0)
+    refused(&rt, most.as_slice(), "header", 21, 0)
 }

@@ -1,11 +1,11 @@
 //! What a book hands out.
 
-use super::hex;
+use super::bytes_of;
 use book::{Book, Letter};
 use std::test::Fail;
 
 // Tasks 5 and 1, then a gap of two bytes, then three instructions: A of task 5, D and X of task 1. 7 steps.
-const BOOK: &[u8] = b"
+const BOOK: &str = "
     0002 000C 0003 001A 00000007
     05 03 0000 0001
     01 02 0001 0002
@@ -14,19 +14,10 @@ const BOOK: &[u8] = b"
     44 00 00 00 00000003 00000004
     58 00 00 00 00000005 00000006";
 
-fn is_row(row: Option<&[u8]>, expected: &[u8]) -> bool {
-    match row {
-        Some(bytes) => bytes == expected,
-        None => false,
-    }
-}
-
 #[test]
 fn tasks(rt: HostRuntime) -> Result<(), Fail> {
-    let bytes = hex(rt.alloc(), BOOK)?;
-    let Ok(book) = Book::read(bytes.as_slice()) else {
-        return Err(Fail::new("the book has no fault"));
-    };
+    let bytes = bytes_of(rt.alloc(), BOOK)?;
+    let book = Book::read(bytes.as_slice())?;
     assert_eq!(rt; book.task_count(), 2);
     assert_eq!(rt; book.steps(), 7);
     assert!(rt;
@@ -46,11 +37,11 @@ fn tasks(rt: HostRuntime) -> Result<(), Fail> {
 
 #[test]
 fn rows(rt: HostRuntime) -> Result<(), Fail> {
-    let bytes = hex(rt.alloc(), BOOK)?;
+    let bytes = bytes_of(rt.alloc(), BOOK)?;
     let book = Book::open(bytes.as_slice());
-    assert!(rt; is_row(book.row(5, 0), b"A\x05\0\0\0\0\0\x01\0\0\0\x02"));
-    assert!(rt; is_row(book.row(1, 0), b"D\0\0\0\0\0\0\x03\0\0\0\x04"));
-    assert!(rt; is_row(book.row(1, 1), b"X\0\0\0\0\0\0\x05\0\0\0\x06"));
+    assert!(rt; book.row(5, 0) == Some(b"A\x05\0\0\0\0\0\x01\0\0\0\x02".as_slice()));
+    assert!(rt; book.row(1, 0) == Some(b"D\0\0\0\0\0\0\x03\0\0\0\x04".as_slice()));
+    assert!(rt; book.row(1, 1) == Some(b"X\0\0\0\0\0\0\x05\0\0\0\x06".as_slice()));
     // Beyond the script there is none, though the book has instructions there.
     assert!(rt; book.row(5, 1).is_none() && book.row(1, 2).is_none());
     assert!(rt; book.row(1, 65536).is_none() && book.row(1, 0xFFFF_FFFF).is_none());
@@ -61,7 +52,7 @@ fn rows(rt: HostRuntime) -> Result<(), Fail> {
 #[test]
 fn blank(rt: HostRuntime) -> Result<(), Fail> {
     // Task 1 at level 5, which is refused.
-    let bytes = hex(rt.alloc(), b"0001 000C 0000 0012 00000009 01 05 0000 0000")?;
+    let bytes = bytes_of(rt.alloc(), "0001 000C 0000 0012 00000009 01 05 0000 0000")?;
     let Err(fault) = Book::read(bytes.as_slice()) else {
         return Err(Fail::new("level 5 is refused"));
     };
@@ -92,7 +83,7 @@ fn letters(rt: HostRuntime) {
 #[test]
 fn told(rt: HostRuntime) -> Result<(), Fail> {
     // Task 1 at level 5, which is refused.
-    let bytes = hex(rt.alloc(), b"0001 000C 0000 0012 00000009 01 05 0000 0000")?;
+    let bytes = bytes_of(rt.alloc(), "0001 000C 0000 0012 00000009 01 05 0000 0000")?;
     let Err(fault) = Book::read(bytes.as_slice()) else {
         return Err(Fail::new("level 5 is refused"));
     };

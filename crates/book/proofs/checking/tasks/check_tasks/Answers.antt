@@ -1,10 +1,10 @@
-use Rattle.std.proofs.Common.{arith, below_more}
+use Rattle.std.proofs.Common.{arith}
 use Rattle.std.proofs.lemmas.Result.{err_from_is_err_and}
 use Rattle.std.proofs.lemmas.Bool.{not-false}
 use Rattle.book.specs.Verdict.{task_tests}
-use Rattle.book.proofs.Found.{ok_passes, and_err, and_ok}
+use Rattle.book.proofs.Found.{and_err, and_ok}
 use Rattle.book.proofs.Order.{at_exit, at_row_exit}
-use Rattle.book.proofs.TaskFaults.{tasks_head, tasks_later, tasks_none, below_one}
+use Rattle.book.proofs.TaskFaults.{tasks_head, tasks_later, tasks_none}
 use Rattle.book.proofs.checking.tasks.check_tasks.Goals as goal
 
 pub returns-in_err-and : goal.returns-in_err-and
