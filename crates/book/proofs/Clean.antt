@@ -1,6 +1,7 @@
 -- What is known of a book without faults.
-use Rattle.std.proofs.Common.{◌≡◌, ℕ, ◌+◌, ◌<◌, ◌≤◌, Bool, true, false, cond, not, ◌||◌, eqb, ltb, List, ◌++◌, length, get_or, is_some, Some, None, Option, refl, ap, subst, inl, inr, arith}
-use Rattle.std.proofs.lemmas.Bool.{both_ways, or_parts, ltb-false, ltb-true, le-ltb, lt-ltb, not-false, eqb-true}
+use Rattle.std.proofs.Common.{◌≡◌, ℕ, ◌+◌, ◌<◌, ◌≤◌, true, false, not, ◌||◌, eqb, ltb, List, ◌++◌, length, get_or, is_some, Some, None, Option, refl, ap, subst, inl, inr, arith}
+use Rattle.std.proofs.lemmas.Bool.{both_ways, or_parts, ltb-false, ltb-true, le-ltb, lt-ltb, not-false, eqb-true, false_from_ne_true}
+use Rattle.std.proofs.lemmas.Option.{cond_some}
 use Rattle.book.specs.declared.faults.Fault.{Fault}
 use Rattle.book.specs.declared.faults.Cause.TheVariants.{Range, Sections, BadTask, NoTaskOne, BadInstruction}
 use Rattle.book.specs.declared.sections.Layout.{Layout}
@@ -27,10 +28,6 @@ unfolding told
 faultless b e = none_if_clean (tests b (layout_of b)) (told b) e (first_least (tests b (layout_of b)))
 
 -- a test that failed would be found
-passed : (t : Bool) → (t ≡ true → ⊥) → t ≡ false
-passed true h = absurd (h refl)
-passed false h = refl
-
 header_passed : (b : List ℕ) → Clean b → Faultless (header_tests b (layout_of b))
 header_passed b s g m =
     let l = layout_of b in
@@ -44,14 +41,14 @@ rows_passed b s g m =
 task_passed : (b : List ℕ) (k : ℕ) → Clean b → k < (layout_of b).tasks.count → bad_task b (layout_of b) k ≡ false
 task_passed b k s h =
     let l = layout_of b in
-    passed (bad_task b l k)
+    false_from_ne_true (bad_task b l k)
     (λ e. rows_passed b s (fault BadTask (place_of_task l k))
     (in_left _ (task_tests b l) (instruction_tests b l) (inr (in_row (task_test b l) l.tasks.count k h e))))
 
 instruction_passed : (b : List ℕ) (k : ℕ) → Clean b → k < (layout_of b).instructions.count → bad_instruction b (layout_of b) k ≡ false
 instruction_passed b k s h =
     let l = layout_of b in
-    passed (bad_instruction b l k)
+    false_from_ne_true (bad_instruction b l k)
     (λ e. rows_passed b s (fault BadInstruction (place_of_instruction l k))
     (in_right _ (task_tests b l) (instruction_tests b l) (in_row (instruction_test b l) l.instructions.count k h e)))
 
@@ -60,26 +57,26 @@ pub tasks_within : (b : List ℕ) → Clean b → end_of_tasks (layout_of b) ≤
 tasks_within b s =
     let l = layout_of b in
     let p : astray b l.tasks.offset (end_of_tasks l) ≡ false =
-    passed _ (λ e. header_passed b s (fault Sections 2) (inr (inr (inr (inl (e, refl)))))) in
+    false_from_ne_true _ (λ e. header_passed b s (fault Sections 2) (inr (inr (inr (inl (e, refl)))))) in
     ltb-false (length b) (end_of_tasks l) (or_parts (ltb l.tasks.offset 12) (ltb (length b) (end_of_tasks l)) p).1
 
 pub instructions_within : (b : List ℕ) → Clean b → end_of_instructions (layout_of b) ≤ length b
 instructions_within b s =
     let l = layout_of b in
     let p : astray b l.instructions.offset (end_of_instructions l) ≡ false =
-    passed _ (λ e. header_passed b s (fault Sections 6) (inr (inr (inr (inr (inl (e, refl))))))) in
+    false_from_ne_true _ (λ e. header_passed b s (fault Sections 6) (inr (inr (inr (inr (inl (e, refl))))))) in
     ltb-false (length b) (end_of_instructions l) (or_parts (ltb l.instructions.offset 12) (ltb (length b) (end_of_instructions l)) p).1
 
 -- counts and steps are in their ranges
 pub count_range : (b : List ℕ) → Clean b → (1 ≤ count_in b) × (count_in b ≤ 127)
 count_range b s =
-    let p : outside 1 127 (count_in b) ≡ false = passed _ (λ e. header_passed b s (fault Range 0) (inl (e, refl))) in
+    let p : outside 1 127 (count_in b) ≡ false = false_from_ne_true _ (λ e. header_passed b s (fault Range 0) (inl (e, refl))) in
     let q = or_parts (ltb (count_in b) 1) (ltb 127 (count_in b)) p in
     (ltb-false (count_in b) 1 q.0, ltb-false 127 (count_in b) q.1)
 
 pub steps_range : (b : List ℕ) → Clean b → steps_in b ≤ 1000000
 steps_range b s =
-    let p : outside 0 1000000 (steps_in b) ≡ false = passed _ (λ e. header_passed b s (fault Range 8) (inr (inr (inl (e, refl))))) in
+    let p : outside 0 1000000 (steps_in b) ≡ false = false_from_ne_true _ (λ e. header_passed b s (fault Range 8) (inr (inr (inl (e, refl))))) in
     ltb-false 1000000 (steps_in b) (or_parts (ltb (steps_in b) 0) (ltb 1000000 (steps_in b)) p).1
 
 -- so the header of a book without faults has none
@@ -88,7 +85,7 @@ framed b s = record {
   some = (count_range b s).0;
   tasks = tasks_within b s;
   instructions = instructions_within b s;
-  apart = passed (overlap (layout_of b)) (λ e. header_passed b s (fault Sections 6) (inr (inr (inr (inr (inr (inl (e, refl))))))));
+  apart = false_from_ne_true (overlap (layout_of b)) (λ e. header_passed b s (fault Sections 6) (inr (inr (inr (inr (inr (inl (e, refl))))))));
 }
 
 -- a row without faults
@@ -115,7 +112,7 @@ fits_at b t k s h e =
     }
 
 fits_found : (b : List ℕ) (t : ℕ) (r : TaskRow) (o : Option ℕ) → Clean b → row_for b (layout_of b) t (layout_of b).tasks.count ≡ o → row_at b (layout_of b) o ≡ Some r → RowFits b t r
-fits_found b t r None s q e = let z : ◌≡◌ {A = ℕ} 0 1 = cc in absurd (omega arith)
+fits_found b t r None s q e = absurd (cc)
 fits_found b t r (Some k) s q e =
     let w = row_for_some b (layout_of b) t (layout_of b).tasks.count k q in
     let v : task_at b (layout_of b) k ≡ r = cc in
@@ -146,7 +143,7 @@ some_row b l (Some k) e = refl
 pub task_one : (b : List ℕ) → Clean b → registered_in b 1 ≡ true
 task_one b s =
     let l = layout_of b in
-    let p : not (numbered b l 1 l.tasks.count) ≡ false = passed _ (λ e. rows_passed b s (fault NoTaskOne l.tasks.offset) (inl (e, refl))) in
+    let p : not (numbered b l 1 l.tasks.count) ≡ false = false_from_ne_true _ (λ e. rows_passed b s (fault NoTaskOne l.tasks.offset) (inl (e, refl))) in
     some_row b l (row_for b l 1 l.tasks.count) (not-false _ p)
 
 -- the instructions of a script
@@ -163,28 +160,23 @@ instruction_fits b k s h =
     let q = or_parts (not (known (get_or b p 0))) (not (eqb (get_or b (p + 3) 0) 0)) (instruction_passed b k s h) in
     (not-false _ q.0, eqb-true _ _ (not-false _ q.1))
 
-placed_at : (b : List ℕ) (t i p : ℕ) (r : TaskRow) (z : Bool) → Clean b → task_in b t ≡ Some r → ltb i r.length ≡ z
-    → cond z (Some (place_of_instruction (layout_of b) (r.first + i))) None ≡ Some p → Placed b t i p
-placed_at b t i p r false s q w e = let z : ◌≡◌ {A = ℕ} 0 1 = cc in absurd (omega arith)
-placed_at b t i p r true s q w e =
+placed_by : (b : List ℕ) (t i p : ℕ) (o : Option TaskRow) → Clean b → task_in b t ≡ o → place_of (layout_of b) o i ≡ Some p → Placed b t i p
+placed_by b t i p None s q e = absurd (cc)
+placed_by b t i p (Some r) s q e =
     let l = layout_of b in
     let k = r.first + i in
-    let less : i < r.length = ltb-true i r.length w in
+    let found = cond_some (ltb i r.length) (place_of_instruction l k) p e in
+    let less : i < r.length = ltb-true i r.length found.0 in
     let fits = task_fits b t r s q in
     let row : k < l.instructions.count = omega (arith, fits.script) in
-    let v : place_of_instruction l k ≡ p = cc in
     let good = instruction_fits b k s row in
     let size : length_in b t ≡ r.length = ap length_of q in
     record {
       index = rw size less;
-      within = subst (λ (m : ℕ). m + 12 ≤ length b) v (omega (arith, instructions_within b s));
-      letter = subst (λ (m : ℕ). known (get_or b m 0) ≡ true) v good.0;
-      zero = subst (λ (m : ℕ). get_or b (m + 3) 0 ≡ 0) v good.1;
+      within = subst (λ (m : ℕ). m + 12 ≤ length b) found.1 (omega (arith, instructions_within b s));
+      letter = subst (λ (m : ℕ). known (get_or b m 0) ≡ true) found.1 good.0;
+      zero = subst (λ (m : ℕ). get_or b (m + 3) 0 ≡ 0) found.1 good.1;
     }
-
-placed_by : (b : List ℕ) (t i p : ℕ) (o : Option TaskRow) → Clean b → task_in b t ≡ o → place_of (layout_of b) o i ≡ Some p → Placed b t i p
-placed_by b t i p None s q e = let z : ◌≡◌ {A = ℕ} 0 1 = cc in absurd (omega arith)
-placed_by b t i p (Some r) s q e = placed_at b t i p r (ltb i r.length) s q refl e
 
 pub placed : (b : List ℕ) (t i p : ℕ) → Clean b → script_place b t i ≡ Some p → Placed b t i p
 placed b t i p s e = placed_by b t i p (task_in b t) s refl e

@@ -71,12 +71,12 @@ row_none each n none = each_row (λ g. ⊥) each n (λ k l t. both_ways (each k)
 
 -- a row reader's answer, `cond t (Err f) (Ok y)`, taken apart
 pub ok_passes : {X : Type 0} (t : Bool) (f : Fault) (x y : X) → Ok x ≡ cond t (Err f) (Ok y) → t ≡ false
-ok_passes true f x y e = let z : ◌≡◌ {A = ℕ} 0 1 = cc in absurd (omega arith)
+ok_passes true f x y e = absurd (cc)
 ok_passes false f x y e = refl
 
 pub err_told : {X : Type 0} (t : Bool) (f g : Fault) (y : X) → Err g ≡ cond t (Err f) (Ok y) → (t ≡ true) × (g ≡ f)
 err_told true f g y e = (refl, cc)
-err_told false f g y e = let z : ◌≡◌ {A = ℕ} 0 1 = cc in absurd (omega arith)
+err_told false f g y e = absurd (cc)
 
 -- two answers, of which the first that is a fault counts
 err_by : {X Y : Type 0} (s t : Bool) (f g w : Fault) (x : X) (y : Y) → Err w ≡ result_and (cond s (Err f) (Ok x)) (cond t (Err g) (Ok y))
@@ -89,7 +89,7 @@ pub and_err : {X Y : Type 0} (s t : Bool) (f g w : Fault) (x : X) (y : Y) (p : R
 and_err s t f g w x y p q h k e = err_by s t f g w x y (rw (h, k) at e)
 
 ok_by : {X Y : Type 0} (s t : Bool) (f g : Fault) (x : X) (y z : Y) → Ok z ≡ result_and (cond s (Err f) (Ok x)) (cond t (Err g) (Ok y)) → (s ≡ false) × (t ≡ false)
-ok_by true t f g x y z e = let n : ◌≡◌ {A = ℕ} 0 1 = cc in absurd (omega arith)
+ok_by true t f g x y z e = absurd (cc)
 ok_by false t f g x y z e = (refl, ok_passes t g z y e)
 
 pub and_ok : {X Y : Type 0} (s t : Bool) (f g : Fault) (x : X) (y z : Y) (p : Result X Fault) (q : Result Y Fault)

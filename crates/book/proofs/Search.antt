@@ -42,8 +42,8 @@ more b l t n k (Some j) z w h e =
 more b l t n k None true w h e =
     let q : n ≡ k = cc in
     (omega arith, subst (λ (m : ℕ). number_at b l m ≡ t) q (eqb-true (number_at b l n) t w))
-more b l t n k None false w h e = let z : ◌≡◌ {A = ℕ} 0 1 = cc in absurd (omega arith)
+more b l t n k None false w h e = absurd (cc)
 
 pub row_for_some : (b : List ℕ) (l : Layout) (t n k : ℕ) → row_for b l t n ≡ Some k → (k < n) × (number_at b l k ≡ t)
-row_for_some b l t zero k e = let z : ◌≡◌ {A = ℕ} 0 1 = cc in absurd (omega arith)
+row_for_some b l t zero k e = absurd (cc)
 row_for_some b l t (suc n) k e = more b l t n k (row_for b l t n) (eqb (number_at b l n) t) refl (λ j. row_for_some b l t n j) e

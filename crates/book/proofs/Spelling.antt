@@ -1,5 +1,5 @@
 -- Letters and their bytes.
-use Rattle.std.proofs.Common.{◌≡◌, ℕ, Bool, true, false, cond, eqb, List, [], ◌∷◌, is_some, Some, None, Option, refl, arith}
+use Rattle.std.proofs.Common.{◌≡◌, ℕ, Bool, true, false, cond, eqb, List, [], ◌∷◌, is_some, Some, None, Option, refl}
 use Rattle.std.proofs.lemmas.Bool.{both_ways, eqb-true}
 use Rattle.book.specs.declared.letters.Letter.{Letter}
 use Rattle.book.specs.declared.letters.Letter.TheVariants.{Rleas, Queue, Abort, Delay, Timer, Ctime, Chap, Sfact, Gfact, Susp, Rsum, Wake, Cwake, Stime, Exit, Jump}
@@ -30,7 +30,7 @@ spelt_more n x y xs true w h e = let q : y ≡ x = cc in rw (← q) (eqb-true n 
 spelt_more n x y xs false w h e = h e
 
 spelt_byte : (n : ℕ) (x : Letter) (xs : List Letter) → spelt n xs ≡ Some x → n ≡ byte_of x
-spelt_byte n x [] e = let z : ◌≡◌ {A = ℕ} 0 1 = cc in absurd (omega arith)
+spelt_byte n x [] e = absurd (cc)
 spelt_byte n x (y ∷ ys) e = spelt_more n x y ys (eqb n (byte_of y)) refl (spelt_byte n x ys) e
 
 pub byte_of_letter : (n : ℕ) (x : Letter) → letter_of n ≡ Some x → n ≡ byte_of x

@@ -8,7 +8,7 @@ ghost use Rattle.book.specs.Verdict.{Tells, Framed, header_tests, overlap};
 use crate::faults::{Cause, Fault};
 use crate::sections::Layout;
 
-// A function of its own, since the proof of `check_header` doesn't close over five ranges.
+// A function of its own: with the three ranges in its body the proof of `check_header` doesn't close.
 fn is_outside(low: u32, high: u32, number: u32) -> bool
     ensures { result ≡ outside low high number }
 {
