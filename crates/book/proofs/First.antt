@@ -1,5 +1,6 @@
 -- `first` finds the first fault, and there is only one.
 use Rattle.std.proofs.Common.{◌≡◌, ℕ, Bool, true, false, cond, eqb, List, [], ◌∷◌, ◌++◌, Some, None, Ok, Err, Option, Result, sym, refl, ap, ◌∙◌, subst, inl, inr, arith}
+use Rattle.std.specs.Result.{IsErrAnd}
 use Rattle.std.proofs.lemmas.Bool.{both_ways}
 use Rattle.std.proofs.lemmas.Bool.Decides.{nat_tests}
 use Rattle.book.specs.declared.faults.Fault.{Fault}
@@ -95,9 +96,10 @@ none_left : (b : List ℕ) (o : Option Fault) → Faultless (tests b (layout_of 
 none_left b None h k = refl
 none_left b (Some g) h k = absurd (h g k.0)
 
-pub verdict_err : (b : List ℕ) (r : Result Layout Fault) (y : Fault) → ((x : Fault) × (r ≡ Err x) × (x ≡ y)) → Firsts (tests b (layout_of b)) y → r ≡ verdict b
+pub verdict_err : (b : List ℕ) (r : Result Layout Fault) (y : Fault) → IsErrAnd r (λ x. x ≡ y) → Firsts (tests b (layout_of b)) y → r ≡ verdict b
 unfolding told
-verdict_err b r y p h = p.1 ∙ (ap Err p.2 ∙ only_one b y (told b) h (first_least (tests b (layout_of b))))
+verdict_err b (Ok l) y p h = absurd p
+verdict_err b (Err x) y p h = ap Err p ∙ only_one b y (told b) h (first_least (tests b (layout_of b)))
 
 pub verdict_ok : (b : List ℕ) (l : Layout) → l ≡ layout_of b → Faultless (tests b (layout_of b)) → Ok l ≡ verdict b
 unfolding told

@@ -1,5 +1,6 @@
 -- How the groups and the sections follow one another.
 use Rattle.std.proofs.Common.{◌≡◌, ℕ, ◌<◌, ◌≤◌, Bool, true, false, cond, not, List, ◌++◌, Ok, Err, Result, sym, refl, ap, ◌∙◌, subst, inl, inr, arith}
+use Rattle.std.specs.Result.{IsErrAnd}
 use Rattle.std.proofs.lemmas.Bool.Decides.{nat_tests}
 use Rattle.book.specs.declared.faults.Fault.{Fault}
 use Rattle.book.specs.declared.sections.Layout.{Layout}
@@ -26,11 +27,12 @@ pub none_both : (ss ts : List Test) → Faultless ss → Faultless ts → Faultl
 none_both ss ts h k = each_append (λ g. ⊥) ss ts h k
 
 -- the exit of a `?`
-pub at_exit : {X : Type 0} (ts : List Test) (r : Result X Fault) (y : Fault) → ((x : Fault) × (r ≡ Err x) × (x ≡ y)) → Firsts ts y → Tells ts r
-at_exit {X} ts r y p h = subst (λ (q : Result X Fault). Tells ts q) (sym (p.1 ∙ ap Err p.2)) h
+pub at_exit : {X : Type 0} (ts : List Test) (r : Result X Fault) (y : Fault) → IsErrAnd r (λ x. x ≡ y) → Firsts ts y → Tells ts r
+at_exit ts (Ok x) y p h = absurd p
+at_exit ts (Err x) y p h = subst (λ (f : Fault). Firsts ts f) (sym p) h
 
 -- the exit of a `?` after a row reader, whose answer is `cond t (Err f) (Ok z)`
-pub at_row_exit : {X Z : Type 0} (ts : List Test) (r : Result X Fault) (t : Bool) (f y : Fault) (z : Z) → ((x : Fault) × (r ≡ Err x) × (x ≡ y))
+pub at_row_exit : {X Z : Type 0} (ts : List Test) (r : Result X Fault) (t : Bool) (f y : Fault) (z : Z) → IsErrAnd r (λ x. x ≡ y)
     → Err y ≡ cond t (Err f) (Ok z) → (t ≡ true → Firsts ts f) → Tells ts r
 at_row_exit ts r t f y z p e h =
     let w = err_told t f y z e in

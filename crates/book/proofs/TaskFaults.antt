@@ -68,6 +68,3 @@ tasks_later b l i h none some e = (
 pub tasks_none : (b : List ℕ) (l : Layout) → ((k : ℕ) → k < l.tasks.count → bad_task b l k ≡ false)
     → numbered b l 1 l.tasks.count ≡ true → Faultless (task_tests b l)
 tasks_none b l none some = each_task (λ g. ⊥) b l (λ n. both_ways _ n some) (λ k h t. both_ways (bad_task b l k) (none k h) t)
-
-pub below_one : (b : List ℕ) (l : Layout) → bad_task b l 0 ≡ false → (k : ℕ) → k < 1 → bad_task b l k ≡ false
-below_one b l p k h = let q : 0 ≡ k = omega arith in subst (λ (m : ℕ). bad_task b l m ≡ false) q p

@@ -1,7 +1,10 @@
 -- The letters of the instructions, each with its byte.
-use Rattle.std.specs.Prelude.{◌≡◌, ℕ, Bool, cond, List, [], ◌∷◌, is_some, Some, None, Option, ◌==◌, ◌≢◌}
+use Rattle.std.specs.Prelude.{◌≡◌, ℕ, Bool, cond, List, [], ◌∷◌, is_some, Some, None, Option, Result, ◌==◌, ◌≢◌}
+use Rattle.std.specs.Option.{ok_or}
+use Rattle.std.specs.Result.{result_ok}
 use Rattle.book.specs.declared.letters.Letter.{Letter}
 use Rattle.book.specs.declared.letters.Letter.TheVariants.{Rleas, Queue, Abort, Delay, Timer, Ctime, Chap, Sfact, Gfact, Susp, Rsum, Wake, Cwake, Stime, Exit, Jump}
+use Rattle.book.specs.declared.letters.UnknownLetter.{UnknownLetter}
 
 -- R Q A D T C P S G H U W K M X and J, as ASCII
 abbrev pub byte_of : Letter → ℕ
@@ -43,3 +46,8 @@ known n = is_some (letter_of n)
 abbrev pub Spells : ℕ → Option Letter → Type 0
 Spells n None = (x : Letter) → byte_of x ≢ n
 Spells n (Some x) = byte_of x ≡ n
+
+-- what comes of reading byte n: the letter that it stands for, or the byte where it stands for none
+pub record Reads (n : ℕ) (r : Result Letter UnknownLetter) : Type 0 where
+  pub value : r ≡ ok_or (letter_of n) (record { 0 = n })
+  pub right : Spells n (result_ok r)

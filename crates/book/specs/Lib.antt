@@ -1,6 +1,5 @@
 pub mod Numbers
 pub mod Letters
-pub mod Reading
 pub mod Layout
 pub mod Faults
 pub mod Verdict

@@ -1,8 +1,7 @@
 //! The letter that an instruction row begins with.
 
 ghost use Rattle.std.specs.Prelude.{◌≡◌, ◌++◌, codes, decimal, Some};
-ghost use Rattle.book.specs.Letters.{byte_of, letter_of};
-ghost use Rattle.book.specs.Reading.{Reads};
+ghost use Rattle.book.specs.Letters.{byte_of, letter_of, Reads};
 
 use std::error::Error;
 use std::fmt;

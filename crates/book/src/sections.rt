@@ -13,7 +13,8 @@ pub struct Section<const ROW: u16> {
     pub count: u16,
 }
 
-/// What a header says: the two sections, and for how many steps a runner runs.
+/// What a header says: the sections of the task rows and of the instruction rows, and for how many steps a
+/// runner runs.
 #[derive(Clone, Copy, Debug, PartialEq, Eq)]
 pub struct Layout {
     pub tasks: Section<6>,
