@@ -1,4 +1,6 @@
 //! Numbers in bytes, big-endian. A byte past the end reads as 0.
+//!
+//! The place of a number has 32 bits, so that the bytes behind it have places too.
 
 ghost use Rattle.std.specs.Prelude.{◌≡◌, slice_index};
 ghost use Rattle.book.specs.Numbers.{be16, be32};
