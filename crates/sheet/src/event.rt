@@ -1,9 +1,11 @@
 //! One record of a sheet: what happened, and to which task.
 
-ghost use Rattle.std.specs.Prelude.{◌≡◌};
-ghost use Rattle.sheet.specs.Events.{word_of};
+ghost use Rattle.std.specs.Prelude.{◌≡◌, Some};
+ghost use Rattle.sheet.specs.Events.{word_of, text_of};
 
-#[derive(Clone, Copy)]
+use std::fmt;
+
+#[derive(Clone, Copy, PartialEq, Eq, Debug)]
 pub enum Kind {
     // A start was accepted.
     Accepted,
@@ -19,23 +21,41 @@ pub enum Kind {
     Runs,
 }
 
-#[derive(Clone, Copy)]
+#[derive(Clone, Copy, PartialEq, Eq, Debug)]
 pub struct Event {
     pub kind: Kind,
     pub task: u8,
 }
 
 impl Kind {
-    pub fn word(self) -> &'static [u8]
+    pub fn word(self) -> &'static str
         ensures { result.now ≡ word_of self }
     {
         match self {
-            Kind::Accepted => b"accepted",
-            Kind::Missed => b"missed",
-            Kind::Ended => b"ended",
-            Kind::Cut => b"cut",
-            Kind::Wakened => b"wakened",
-            Kind::Runs => b"runs",
+            Kind::Accepted => "accepted",
+            Kind::Missed => "missed",
+            Kind::Ended => "ended",
+            Kind::Cut => "cut",
+            Kind::Wakened => "wakened",
+            Kind::Runs => "runs",
         }
+    }
+}
+
+// A kind is printed as its word.
+impl fmt::Display for Kind {
+    ghost output = { λ k. Some (word_of k) };
+
+    fn fmt<W: fmt::Write>(&self, f: &mut fmt::Formatter<W>) -> fmt::Result {
+        f.write_str(self.word())
+    }
+}
+
+// An event is printed as its word and its task.
+impl fmt::Display for Event {
+    ghost output = { λ e. Some (text_of e) };
+
+    fn fmt<W: fmt::Write>(&self, f: &mut fmt::Formatter<W>) -> fmt::Result {
+        write!(f, "{} {}", self.kind, self.task)
     }
 }

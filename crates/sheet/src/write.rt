@@ -11,7 +11,7 @@ pub fn tell(sheet: &mut [Event], event: Event)
     requires { 0 < length sheet.old }
     ensures { sheet.new ≡ written (event ∷ []) sheet.old }
 {
-    sheet[0] = event;
+    tell_times(sheet, event, 1);
 }
 
 // Writes the same event so many times at the front of the sheet; the records behind stay.
@@ -19,5 +19,5 @@ pub fn tell_times(sheet: &mut [Event], event: Event, times: usize)
     requires { times ≤ length sheet.old }
     ensures { sheet.new ≡ written (replicate times event) sheet.old }
 {
-    sheet[0..times].fill(event);
+    sheet[..times].fill(event);
 }

@@ -66,7 +66,7 @@ fn add_wakes(rt: &impl Abort, places: &mut [WakePlace], first: u8, last: u8) -> 
 }
 
 // The event at this place of the sheet.
-fn told(rt: &impl Abort, sheet: &[Event], at: usize, word: &[u8], task: u8) {
+fn told(rt: &impl Abort, sheet: &[Event], at: usize, word: &str, task: u8) {
     assert!(rt; at < sheet.len());
     let event = sheet[at];
     assert_eq!(rt; event.task, task);
@@ -80,7 +80,7 @@ fn told_in_order(rt: &impl Abort, sheet: &[Event]) {
         assert!(rt; task < 127);
         task += 1;
         assert_eq!(rt; event.task, task);
-        assert!(rt; event.kind.word() == b"accepted".as_slice());
+        assert!(rt; event.kind.word() == "accepted");
     }
 }
 
@@ -108,19 +108,19 @@ fn beats_of_one_entry(rt: HostRuntime) -> Result<(), Fail> {
     assert!(rt; row::add::<Timer>(&mut places, delay(3, 3)?));
     assert!(rt; !row::add::<Timer>(&mut places, timer(4, 4, 0)?));
     assert_eq!(rt; beat::<Timer>(&mut places, (), &mut target, &mut sheet)?, 1);
-    told(&rt, &sheet, 0, b"accepted", 1);
+    told(&rt, &sheet, 0, "accepted", 1);
     assert_eq!(rt; beat::<Timer>(&mut places, (), &mut target, &mut sheet)?, 2);
-    told(&rt, &sheet, 0, b"missed", 1);
-    told(&rt, &sheet, 1, b"accepted", 2);
+    told(&rt, &sheet, 0, "missed", 1);
+    told(&rt, &sheet, 1, "accepted", 2);
     assert_eq!(rt; beat::<Timer>(&mut places, (), &mut target, &mut sheet)?, 2);
-    told(&rt, &sheet, 0, b"accepted", 1);
-    told(&rt, &sheet, 1, b"wakened", 3);
+    told(&rt, &sheet, 0, "accepted", 1);
+    told(&rt, &sheet, 1, "wakened", 3);
     // The delay is gone, and its place is free.
     assert!(rt; row::add::<Timer>(&mut places, timer(4, 1, 0)?));
     assert_eq!(rt; beat::<Timer>(&mut places, (), &mut target, &mut sheet)?, 2);
-    told(&rt, &sheet, 1, b"accepted", 4);
+    told(&rt, &sheet, 1, "accepted", 4);
     assert_eq!(rt; beat::<Timer>(&mut places, (), &mut target, &mut sheet)?, 2);
-    told(&rt, &sheet, 1, b"accepted", 2);
+    told(&rt, &sheet, 1, "accepted", 2);
     Ok(())
 }
 
@@ -176,10 +176,10 @@ fn removal_in_the_middle(rt: HostRuntime) -> Result<(), Fail> {
     );
     assert!(rt; row::add::<Timer>(&mut places, timer(5, 1, 0)?));
     assert_eq!(rt; beat::<Timer>(&mut places, (), &mut target, &mut sheet)?, 4);
-    told(&rt, &sheet, 0, b"accepted", 1);
-    told(&rt, &sheet, 1, b"wakened", 2);
-    told(&rt, &sheet, 2, b"accepted", 4);
-    told(&rt, &sheet, 3, b"accepted", 5);
+    told(&rt, &sheet, 0, "accepted", 1);
+    told(&rt, &sheet, 1, "wakened", 2);
+    told(&rt, &sheet, 2, "accepted", 4);
+    told(&rt, &sheet, 3, "accepted", 5);
     assert_eq!(rt; beat::<Timer>(&mut places, (), &mut target, &mut sheet)?, 0);
     Ok(())
 }
@@ -208,7 +208,7 @@ fn any_places(rt: HostRuntime) -> Result<(), Fail> {
     let mut sheet = [NO_EVENT; 6];
     let mut target = Last { task: 0 };
     assert_eq!(rt; beat::<Timer>(&mut places, (), &mut target, &mut sheet)?, 1);
-    told(&rt, &sheet, 0, b"accepted", 127);
+    told(&rt, &sheet, 0, "accepted", 127);
     add_timers(&rt, &mut places, 1, 5)?;
     assert!(rt; !row::add::<Timer>(&mut places, timer(6, 1, 0)?));
     assert_eq!(rt; places[0].task, 127);
