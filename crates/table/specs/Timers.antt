@@ -9,7 +9,7 @@ use Rattle.table.specs.declared.selection.Selection.TheVariants.{Set, Delay}
 use Rattle.table.specs.Ranges.{named?}
 
 abbrev pub place_of : Timer → TimerPlace
-place_of e = record { delay = e.delay; task = e.task; factor = e.factor; wait = e.wait; cycle = e.cycle }
+place_of e = e.place
 
 abbrev pub standing : TimerPlace → Bool
 standing p = named? p.task p.factor

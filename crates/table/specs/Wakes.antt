@@ -11,7 +11,7 @@ use Rattle.table.specs.declared.selection.Selection.TheVariants.{Set, Delay}
 use Rattle.table.specs.Ranges.{named?}
 
 abbrev pub wake_place_of : Wake → WakePlace
-wake_place_of e = record { task = e.task; factor = e.factor; second = e.second; cycle = e.cycle; phase = e.phase }
+wake_place_of e = e.place
 
 abbrev pub wake_stands : WakePlace → Bool
 wake_stands p = named? p.task p.factor

@@ -3,7 +3,6 @@
 ghost use Rattle.std.specs.Prelude.{◌≡◌, Bool, true, false, Option, MatchOption};
 ghost use Rattle.table.specs.declared.firing.Firing.{Firing};
 ghost use Rattle.table.specs.declared.selection.Selection.{Selection};
-ghost use Rattle.table.specs.Ranges.{InRangeIf};
 ghost use Rattle.table.specs.Rows.{placed};
 
 use crate::firing::Firing;
@@ -54,8 +53,7 @@ pub trait TableEntry: Copy {
 
     fn beaten(self, beat: Self::Beat) -> Beaten<Self>
         ensures left { placed place result.left ≡ after beat (place self) }
-        ensures firing { result.firing ≡ fires beat (place self) }
-        ensures ranged { InRangeIf result.firing };
+        ensures firing { result.firing ≡ fires beat (place self) };
 
     fn is_selected(self, by: Selection) -> bool
         ensures { result ≡ chosen by (place self) };

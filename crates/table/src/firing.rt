@@ -3,16 +3,17 @@
 ghost use Rattle.std.specs.Prelude.{◌≡◌};
 ghost use Rattle.sheet.specs.declared.event.Event.{Event};
 ghost use Rattle.table.specs.declared.firing.Firing.{Firing};
-ghost use Rattle.table.specs.Ranges.{InRange};
 
+use numbers::{Factor, Task};
 use sheet::Event;
 
+// It names a task and a factor in range by their types, so that nobody tests them again.
 #[derive(Clone, Copy)]
 pub enum Firing {
     // A start of the task, with a factor.
-    Start { task: u8, factor: u8 },
+    Start { task: Task, factor: Factor },
     // The task's delay is over.
-    Rouse { task: u8 },
+    Rouse { task: Task },
 }
 
 // What firings act on. It is known by a model of it: `seen` is the model of a value, `fired` the model after a firing,
@@ -26,9 +27,7 @@ pub trait Target {
 
     ghost tells: { Model → Firing → Event };
 
-    // The range is asked of the table, which has it from the entry's type, so that nobody tests it again.
     fn fire(&mut self, firing: Firing) -> Event
-        requires { InRange firing }
         ensures state { seen self.new ≡ fired (seen self.old) firing }
         ensures event { result ≡ tells (seen self.old) firing };
 }

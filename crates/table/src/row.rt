@@ -1,7 +1,7 @@
 //! A row of places, lent by the station for each call, and what is done to its entries. Their order is the order of
 //! acceptance, whatever the places they stand in; nothing is asked of what a place holds.
 
-ghost use Rattle.std.specs.Prelude.{◌≡◌, ◌≤◌, false, not, [], ◌∷◌, ◌++◌, length, take, drop, if◌then◌else◌, filter, nat_lt};
+ghost use Rattle.std.specs.Prelude.{◌≡◌, ◌≤◌, false, not, [], ◌∷◌, ◌++◌, length, take, drop, is_ok, if◌then◌else◌, filter, nat_lt};
 ghost use Rattle.sheet.specs.Sheets.{written};
 ghost use Rattle.table.specs.Rows.{entries, lefts, listed, firings, all_fired, all_told, added};
 
@@ -9,6 +9,20 @@ use crate::entry::{Beaten, TableEntry};
 use crate::firing::Target;
 use crate::selection::Selection;
 use sheet::Event;
+use std::error::Error;
+use std::fmt;
+
+// Every place of a table is taken.
+#[derive(Clone, Copy, Debug, PartialEq, Eq)]
+pub struct Full;
+
+impl fmt::Display for Full {
+    fn fmt<W: fmt::Write>(&self, f: &mut fmt::Formatter<W>) -> fmt::Result {
+        write!(f, "every place is taken")
+    }
+}
+
+impl Error for Full {}
 
 // What a beat made of one place: what stands there then, and the event told.
 struct Struck<P> {
@@ -110,17 +124,17 @@ fn compact<E: TableEntry>(places: &mut [E::Place]) -> usize
 }
 
 // Adds an entry behind the others; refused, with the entries as they were, exactly when every place is taken.
-pub fn add<E: TableEntry>(places: &mut [E::Place], entry: E) -> bool
-    ensures room { result ≡ nat_lt (length (entries E.TableEntry.live places.old)) (length places.old) }
-    ensures entries { entries E.TableEntry.live places.new ≡ (if result then entries E.TableEntry.live places.old ++ (E.TableEntry.place entry ∷ []) else entries E.TableEntry.live places.old) }
+pub fn add<E: TableEntry>(places: &mut [E::Place], entry: E) -> Result<(), Full>
+    ensures room { is_ok result ≡ nat_lt (length (entries E.TableEntry.live places.old)) (length places.old) }
+    ensures entries { entries E.TableEntry.live places.new ≡ (if is_ok result then entries E.TableEntry.live places.old ++ (E.TableEntry.place entry ∷ []) else entries E.TableEntry.live places.old) }
     ensures taken { entries E.TableEntry.live places.new ≡ added (length places.old) (entries E.TableEntry.live places.old) (E.TableEntry.place entry) }
 {
     let count = compact::<E>(places);
     if count < places.len() {
         places[count] = entry.to_place();
-        true
+        Ok(())
     } else {
-        false
+        Err(Full)
     }
 }
 

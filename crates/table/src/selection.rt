@@ -1,6 +1,6 @@
 //! Which entries a removal takes.
 
-#[derive(Clone, Copy)]
+#[derive(Clone, Copy, PartialEq, Eq)]
 pub enum Selection {
     // What a cancel by task and factor matches.
     Set { task: u8, factor: u8 },

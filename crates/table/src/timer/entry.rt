@@ -2,17 +2,15 @@
 
 ghost use Rattle.std.specs.Prelude.{◌≤◌};
 
+use crate::timer::TimerPlace;
+
 // A timer starts its task after `wait` beats and then at each `cycle`-th, with cycle 0 once; a delay rouses its task
 // after `wait` beats and goes.
 #[derive(Clone, Copy)]
 pub struct Timer {
-    delay: bool,
-    task: u8,
-    factor: u8,
-    wait: u32,
-    cycle: u32,
-    ghost numbered: { (1 ≤ task) × (task ≤ 127) },
-    ghost factored: { factor ≤ 16 },
+    place: TimerPlace,
+    ghost numbered: { (1 ≤ place.task) × (place.task ≤ 127) },
+    ghost factored: { place.factor ≤ 16 },
 }
 
 pub mod beat;

@@ -2,18 +2,14 @@
 
 ghost use Rattle.std.specs.Prelude.{◌≤◌};
 
-use crate::wake::Phase;
+use crate::wake::WakePlace;
 
 // A wake starts its task at the next beat whose time of day is its second, and then at each `cycle`-th beat.
 #[derive(Clone, Copy)]
 pub struct Wake {
-    task: u8,
-    factor: u8,
-    second: u32,
-    cycle: u32,
-    phase: Phase,
-    ghost numbered: { (1 ≤ task) × (task ≤ 127) },
-    ghost factored: { factor ≤ 16 },
+    place: WakePlace,
+    ghost numbered: { (1 ≤ place.task) × (place.task ≤ 127) },
+    ghost factored: { place.factor ≤ 16 },
 }
 
 pub mod beat;

@@ -1,6 +1,5 @@
 ghost use Rattle.std.specs.Prelude.{◌≡◌, ℕ, ◌≤◌, Bool, true, false, Option, MatchOption};
 ghost use Rattle.table.specs.Rows.{placed};
-ghost use Rattle.table.specs.Ranges.{InRangeIf};
 ghost use Rattle.table.specs.Timers.{place_of, standing, no_timer, timer_after, timer_fires, delay_place, timer_place, with_wait, timer_selected};
 ghost use Rattle.std.proofs.Common.{rules, arith};
 
@@ -8,33 +7,36 @@ use crate::entry::{Beaten, TableEntry};
 use crate::firing::Firing;
 use crate::selection::Selection;
 use crate::timer::{Timer, TimerPlace};
+use numbers::{Factor, Task};
 
 impl Timer {
-    // The delay of a task for `wait` milliseconds. The station hands in the task with the processor, which is in range.
-    pub fn delay(task: u8, wait: u32) -> Timer
-        requires { (1 ≤ task) × (task ≤ 127) }
+    // The delay of a task for `wait` milliseconds.
+    pub fn delay(task: Task, wait: u32) -> Timer
         ensures { place_of result ≡ delay_place task wait }
     {
         Timer {
-            delay: true,
-            task,
-            factor: 0,
-            wait,
-            cycle: 0,
+            place: TimerPlace {
+                delay: true,
+                task: task.get(),
+                factor: 0,
+                wait,
+                cycle: 0,
+            },
         }
     }
 
-    // A timer of a task and a factor. The station has tested both by then.
-    pub fn timer(task: u8, factor: u8, wait: u32, cycle: u32) -> Timer
-        requires { (1 ≤ task) × (task ≤ 127) × (factor ≤ 16) }
+    // A timer of a task and a factor.
+    pub fn timer(task: Task, factor: Factor, wait: u32, cycle: u32) -> Timer
         ensures { place_of result ≡ timer_place task factor wait cycle }
     {
         Timer {
-            delay: false,
-            task,
-            factor,
-            wait,
-            cycle,
+            place: TimerPlace {
+                delay: false,
+                task: task.get(),
+                factor: factor.get(),
+                wait,
+                cycle,
+            },
         }
     }
 
@@ -43,11 +45,7 @@ impl Timer {
         ensures { place_of result ≡ with_wait (place_of self) wait }
     {
         Timer {
-            delay: self.delay,
-            task: self.task,
-            factor: self.factor,
-            wait,
-            cycle: self.cycle,
+            place: TimerPlace { wait, ..self.place },
         }
     }
 }
@@ -85,64 +83,51 @@ impl TableEntry for Timer {
         }
     }
 
-    fn from_place(p: TimerPlace) -> Option<Timer> {
-        if 1 <= p.task && p.task <= 127 && p.factor <= 16 {
-            Some(Timer {
-                delay: p.delay,
-                task: p.task,
-                factor: p.factor,
-                wait: p.wait,
-                cycle: p.cycle,
-            })
-        } else {
-            None
-        }
+    fn from_place(place: TimerPlace) -> Option<Timer> {
+        Task::new(place.task)?;
+        Factor::new(place.factor)?;
+        Some(Timer { place })
     }
 
     fn to_place(self) -> TimerPlace {
-        TimerPlace {
-            delay: self.delay,
-            task: self.task,
-            factor: self.factor,
-            wait: self.wait,
-            cycle: self.cycle,
-        }
+        self.place
     }
 
     fn beaten(self, _beat: ()) -> Beaten<Timer> {
-        if self.wait > 1 {
-            let left = self.waiting(self.wait - 1);
-            return Beaten {
-                left: Some(left),
-                firing: None,
-            };
+        let TimerPlace {
+            delay,
+            task,
+            factor,
+            wait,
+            cycle,
+        } = self.place;
+        if wait > 1 {
+            let left = Some(self.waiting(wait - 1));
+            return Beaten { left, firing: None };
         }
-        if self.delay {
-            return Beaten {
-                left: None,
-                firing: Some(Firing::Rouse { task: self.task }),
-            };
-        }
-        let firing = Some(Firing::Start {
-            task: self.task,
-            factor: self.factor,
-        });
-        if self.cycle == 0 {
+        let task = Task::within(task);
+        if delay {
+            let firing = Some(Firing::Rouse { task });
             return Beaten { left: None, firing };
         }
-        let left = self.waiting(self.cycle);
-        Beaten {
-            left: Some(left),
-            firing,
-        }
+        let factor = Factor::within(factor);
+        let left = (cycle > 0).then_some(self.waiting(cycle));
+        let firing = Some(Firing::Start { task, factor });
+        Beaten { left, firing }
     }
 
     fn is_selected(self, by: Selection) -> bool {
-        match by {
-            Selection::Set { task, factor } => !self.delay
-                && self.task == task
-                && self.factor == factor,
-            Selection::Delay { task } => self.delay && self.task == task,
-        }
+        let TimerPlace {
+            delay,
+            task,
+            factor,
+            ..
+        } = self.place;
+        let own = if delay {
+            Selection::Delay { task }
+        } else {
+            Selection::Set { task, factor }
+        };
+        by == own
     }
 }

@@ -1,6 +1,5 @@
 ghost use Rattle.std.specs.Prelude.{◌≡◌, ℕ, ◌≤◌, Bool, true, false, Some, Option, MatchOption};
 ghost use Rattle.table.specs.Rows.{placed};
-ghost use Rattle.table.specs.Ranges.{InRangeIf};
 ghost use Rattle.table.specs.Wakes.{wake_place_of, wake_stands, no_wake, rings, rang, wake_after, wake_fires, wake_selected, waits_for};
 ghost use Rattle.std.proofs.Common.{rules, arith};
 
@@ -8,19 +7,21 @@ use crate::entry::{Beaten, TableEntry};
 use crate::firing::Firing;
 use crate::selection::Selection;
 use crate::wake::{Phase, Wake, WakePlace};
+use numbers::{Factor, Task};
 
 impl Wake {
-    // A wake that waits for a second of the day. The station has tested task and factor by then.
-    pub fn waiting(task: u8, factor: u8, second: u32, cycle: u32) -> Wake
-        requires { (1 ≤ task) × (task ≤ 127) × (factor ≤ 16) }
+    // A wake that waits for a second of the day.
+    pub fn waiting(task: Task, factor: Factor, second: u32, cycle: u32) -> Wake
         ensures { wake_place_of result ≡ waits_for task factor second cycle }
     {
         Wake {
-            task,
-            factor,
-            second,
-            cycle,
-            phase: Phase::Waits,
+            place: WakePlace {
+                task: task.get(),
+                factor: factor.get(),
+                second,
+                cycle,
+                phase: Phase::Waits,
+            },
         }
     }
 
@@ -28,8 +29,8 @@ impl Wake {
     fn rings(self, second: u32) -> bool
         ensures { result ≡ rings second (wake_place_of self) }
     {
-        match self.phase {
-            Phase::Waits => self.second == second,
+        match self.place.phase {
+            Phase::Waits => self.place.second == second,
             Phase::Counts { left } => left <= 1,
             Phase::Spent => false,
         }
@@ -39,13 +40,15 @@ impl Wake {
     fn next_phase(self, second: u32) -> Phase
         ensures { result ≡ rang second (wake_place_of self) }
     {
+        let WakePlace { cycle, phase, .. } = self.place;
         if self.rings(second) {
-            if self.cycle == 0 {
-                return Phase::Spent;
-            }
-            return Phase::Counts { left: self.cycle };
+            return if cycle == 0 {
+                Phase::Spent
+            } else {
+                Phase::Counts { left: cycle }
+            };
         }
-        match self.phase {
+        match phase {
             Phase::Counts { left } => Phase::Counts {
                 left: left.saturating_sub(1),
             },
@@ -88,54 +91,32 @@ impl TableEntry for Wake {
         }
     }
 
-    fn from_place(p: WakePlace) -> Option<Wake> {
-        if 1 <= p.task && p.task <= 127 && p.factor <= 16 {
-            Some(Wake {
-                task: p.task,
-                factor: p.factor,
-                second: p.second,
-                cycle: p.cycle,
-                phase: p.phase,
-            })
-        } else {
-            None
-        }
+    fn from_place(place: WakePlace) -> Option<Wake> {
+        Task::new(place.task)?;
+        Factor::new(place.factor)?;
+        Some(Wake { place })
     }
 
     fn to_place(self) -> WakePlace {
-        WakePlace {
-            task: self.task,
-            factor: self.factor,
-            second: self.second,
-            cycle: self.cycle,
-            phase: self.phase,
-        }
+        self.place
     }
 
     fn beaten(self, beat: u32) -> Beaten<Wake> {
         let phase = self.next_phase(beat);
         let left = Some(Wake {
-            task: self.task,
-            factor: self.factor,
-            second: self.second,
-            cycle: self.cycle,
-            phase,
+            place: WakePlace {
+                phase,
+                ..self.place
+            },
         });
-        if self.rings(beat) {
-            let firing = Some(Firing::Start {
-                task: self.task,
-                factor: self.factor,
-            });
-            Beaten { left, firing }
-        } else {
-            Beaten { left, firing: None }
-        }
+        let task = Task::within(self.place.task);
+        let factor = Factor::within(self.place.factor);
+        let firing = self.rings(beat).then_some(Firing::Start { task, factor });
+        Beaten { left, firing }
     }
 
     fn is_selected(self, by: Selection) -> bool {
-        match by {
-            Selection::Set { task, factor } => self.task == task && self.factor == factor,
-            Selection::Delay { .. } => false,
-        }
+        let WakePlace { task, factor, .. } = self.place;
+        by == Selection::Set { task, factor }
     }
 }
