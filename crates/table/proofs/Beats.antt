@@ -1,7 +1,7 @@
 -- A loop that beats the places of a row in their order.
 use Rattle.std.proofs.Common.{◌≡◌, ℕ, ◌+◌, ◌<◌, ◌≤◌, Bool, List, [], ◌∷◌, ◌++◌, length, get_or, take, drop, set, Some, None, fold, Option, sym, refl, ap, ◌∙◌, subst, append_assoc, add-zero, arith}
 use Rattle.std.specs.List.{flat_map}
-use Rattle.std.proofs.lemmas.List.{take_more, take_more_set, drop-set-lt, take_all, get_or-drop, drop-drop, length-set, append-nil, set-get_or}
+use Rattle.std.proofs.lemmas.List.{take_more, take_more_set, drop-set-lt, take_all, get_or-drop, drop-drop, length-set, append-nil}
 use Rattle.std.proofs.lemmas.List.Elements.{filter-append}
 use Rattle.sheet.specs.declared.event.Event.{Event}
 use Rattle.sheet.proofs.Fronts.{Writing, writing_more}
@@ -31,33 +31,25 @@ pub record Going {P : Type 0} (live : P → Bool) (f : P → List P) (xs ys : Li
 
 module _ {P : Type 0} {live : P → Bool} {f : P → List P} {xs ys : List P} {i : ℕ} where
   -- the entries that were gone through, with one place more
-  pub going_split : Going live f xs ys i → i < length ys → (p : P) → p ≡ get_or ys i p → entries live (take (i + 1) xs) ≡ entries live (take i xs) ++ entries live (p ∷ [])
-  going_split b lt p is =
+  pub going_split : Going live f xs ys i → i < length ys → (d : P) → entries live (take (i + 1) xs) ≡ entries live (take i xs) ++ entries live (get_or ys i d ∷ [])
+  going_split b lt d =
       let lx : i < length xs = (let l = b.long in omega arith) in
-      let x : get_or xs i p ≡ p = same_at xs ys i p b.rest ∙ sym is in
-      ap (entries live) (take_more xs i p lx ∙ ap (λ y. take i xs ++ (y ∷ [])) x) ∙ filter-append live (take i xs) (p ∷ [])
+      ap (entries live) (take_more xs i d lx ∙ ap (λ y. take i xs ++ (y ∷ [])) (same_at xs ys i d b.rest)) ∙ filter-append live (take i xs) (get_or ys i d ∷ [])
 
-  pub going_more : Going live f xs ys i → i < length ys → (p : P) → p ≡ get_or ys i p → (q : P) →
-      entries live (q ∷ []) ≡ flat_map f (entries live (p ∷ [])) → Going live f xs (set ys i q) (i + 1)
-  going_more b lt p is q e =
+  pub going_more : Going live f xs ys i → i < length ys → (d q : P) →
+      entries live (q ∷ []) ≡ flat_map f (entries live (get_or ys i d ∷ [])) → Going live f xs (set ys i q) (i + 1)
+  going_more b lt d q e =
       let lt1 : i < i + 1 = omega arith in
       record {
         done =
             ap (entries live) (take_more_set ys i q lt) ∙ filter-append live (take i ys) (q ∷ [])
             ∙ ap (λ l. l ++ entries live (q ∷ [])) b.done
             ∙ ap (λ l. flat_map f (entries live (take i xs)) ++ l) e
-            ∙ sym (joined_append f (entries live (take i xs)) (entries live (p ∷ [])))
-            ∙ ap (flat_map f) (sym (going_split b lt p is));
+            ∙ sym (joined_append f (entries live (take i xs)) (entries live (get_or ys i d ∷ [])))
+            ∙ ap (flat_map f) (sym (going_split b lt d));
         rest = drop-set-lt (i + 1) ys i q lt1 ∙ sym (drop-drop 1 i ys) ∙ ap (drop 1) b.rest ∙ drop-drop 1 i xs;
         long = length-set ys i q ∙ b.long;
       }
-
-  -- the place is left as it is
-  pub going_same : Going live f xs ys i → i < length ys → (p : P) → p ≡ get_or ys i p →
-      entries live (p ∷ []) ≡ flat_map f (entries live (p ∷ [])) → Going live f xs ys (i + 1)
-  going_same b lt p is e =
-      let back : set ys i p ≡ ys = ap (set ys i) is ∙ set-get_or ys i p in
-      subst (λ zs. Going live f xs zs (i + 1)) back (going_more b lt p is p e)
 
   pub going_all : Going live f xs ys i → length xs ≤ i → entries live ys ≡ flat_map f (entries live xs)
   going_all b le =

@@ -1,6 +1,6 @@
 pub mod Beats
 pub mod Counts
 pub mod Orders
-pub mod Packs
+pub mod Adds
 pub mod Removes
 pub mod Rings

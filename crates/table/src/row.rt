@@ -1,7 +1,7 @@
 //! A row of places, lent by the station for each call, and what is done to its entries. Their order is the order of
 //! acceptance, whatever the places they stand in; nothing is asked of what a place holds.
 
-ghost use Rattle.std.specs.Prelude.{◌≡◌, ◌≤◌, false, not, [], ◌∷◌, ◌++◌, length, take, drop, is_ok, if◌then◌else◌, filter, nat_lt};
+ghost use Rattle.std.specs.Prelude.{◌≡◌, ◌≤◌, false, not, [], ◌∷◌, ◌++◌, length, is_ok, if◌then◌else◌, filter, nat_lt};
 ghost use Rattle.sheet.specs.Sheets.{written};
 ghost use Rattle.table.specs.Rows.{entries, lefts, listed, firings, all_fired, all_told, added};
 
@@ -24,41 +24,22 @@ impl fmt::Display for Full {
 
 impl Error for Full {}
 
-// What a beat made of one place: what stands there then, and the event told.
-struct Struck<P> {
-    place: P,
-    event: Option<Event>,
-}
-
-// Beats what stands in one place.
-fn strike<E: TableEntry, T: Target>(p: E::Place, beat: E::Beat, target: &mut T) -> Struck<E::Place>
-    ensures place { entries E.TableEntry.live (result.place ∷ []) ≡ lefts (E.TableEntry.after beat) (entries E.TableEntry.live (p ∷ [])) }
-    ensures target { T.Target.seen target.new ≡ all_fired T.Target.fired (T.Target.seen target.old) (firings (E.TableEntry.fires beat) (entries E.TableEntry.live (p ∷ []))) }
-    ensures event { listed result.event ≡ all_told T.Target.fired T.Target.tells (T.Target.seen target.old) (firings (E.TableEntry.fires beat) (entries E.TableEntry.live (p ∷ []))) }
+// Beats what stands in one place, and tells the event of its firing, if it fires.
+fn strike<E: TableEntry, T: Target>(
+    place: &mut E::Place,
+    beat: E::Beat,
+    target: &mut T,
+) -> Option<Event>
+    ensures place { entries E.live (place.new ∷ []) ≡ lefts (E.after beat) (entries E.live (place.old ∷ [])) }
+    ensures target { T.seen target.new ≡ all_fired T.fired (T.seen target.old) (firings (E.fires beat) (entries E.live (place.old ∷ []))) }
+    ensures event { listed result ≡ all_told T.fired T.tells (T.seen target.old) (firings (E.fires beat) (entries E.live (place.old ∷ []))) }
 {
-    match E::from_place(p) {
-        None => Struck {
-            place: p,
-            event: None,
-        },
-        Some(entry) => {
-            let Beaten { left, firing } = entry.beaten(beat);
-            let place = match left {
-                Some(entry) => entry.to_place(),
-                None => E::free(),
-            };
-            match firing {
-                Some(firing) => {
-                    let event = target.fire(firing);
-                    Struck {
-                        place,
-                        event: Some(event),
-                    }
-                }
-                None => Struck { place, event: None },
-            }
-        }
-    }
+    let Beaten { left, firing } = E::from_place(*place)?.beaten(beat);
+    *place = match left {
+        Some(entry) => entry.to_place(),
+        None => E::free(),
+    };
+    Some(target.fire(firing?))
 }
 
 // Beats every entry once, oldest first, and tells an event for each that fires at the front of the sheet; answers how
@@ -70,18 +51,15 @@ pub fn beat<E: TableEntry, T: Target>(
     sheet: &mut [Event],
 ) -> usize
     requires { length places.old ≤ length sheet.old }
-    ensures entries { entries E.TableEntry.live places.new ≡ lefts (E.TableEntry.after beat) (entries E.TableEntry.live places.old) }
-    ensures target { T.Target.seen target.new ≡ all_fired T.Target.fired (T.Target.seen target.old) (firings (E.TableEntry.fires beat) (entries E.TableEntry.live places.old)) }
-    ensures sheet { sheet.new ≡ written (all_told T.Target.fired T.Target.tells (T.Target.seen target.old) (firings (E.TableEntry.fires beat) (entries E.TableEntry.live places.old))) sheet.old }
-    ensures count { result ≡ length (all_told T.Target.fired T.Target.tells (T.Target.seen target.old) (firings (E.TableEntry.fires beat) (entries E.TableEntry.live places.old))) }
+    ensures entries { entries E.live places.new ≡ lefts (E.after beat) (entries E.live places.old) }
+    ensures target { T.seen target.new ≡ all_fired T.fired (T.seen target.old) (firings (E.fires beat) (entries E.live places.old)) }
+    ensures sheet { sheet.new ≡ written (all_told T.fired T.tells (T.seen target.old) (firings (E.fires beat) (entries E.live places.old))) sheet.old }
+    ensures count { result ≡ length (all_told T.fired T.tells (T.seen target.old) (firings (E.fires beat) (entries E.live places.old))) }
     ensures within { result ≤ length places.old }
 {
     let mut told = 0;
-    for i in 0..places.len() {
-        let p = places[i];
-        let Struck { place, event } = strike::<E, T>(p, beat, target);
-        places[i] = place;
-        if let Some(event) = event {
+    for place in places.iter_mut() {
+        if let Some(event) = strike::<E, T>(place, beat, target) {
             sheet[told] = event;
             told += 1;
         }
@@ -89,75 +67,46 @@ pub fn beat<E: TableEntry, T: Target>(
     told
 }
 
-// Whether an entry stands in a place.
-fn stands<E: TableEntry>(p: E::Place) -> bool
-    ensures { result ≡ E.TableEntry.live p }
+// Whether no entry stands in a place.
+fn is_free<E: TableEntry>(place: E::Place) -> bool
+    ensures { result ≡ not (E.live place) }
 {
-    E::from_place(p).is_some()
-}
-
-// Frees every place.
-fn vacate<E: TableEntry>(places: &mut [E::Place])
-    ensures { entries E.TableEntry.live places.new ≡ [] }
-{
-    for p in places.iter_mut() {
-        *p = E::free();
-    }
-}
-
-// Moves the entries to the front, in their order, and frees what lies behind; answers how many there are.
-fn compact<E: TableEntry>(places: &mut [E::Place]) -> usize
-    ensures front { take result places.new ≡ entries E.TableEntry.live places.old }
-    ensures behind { entries E.TableEntry.live (drop result places.new) ≡ [] }
-    ensures count { result ≡ length (entries E.TableEntry.live places.old) }
-{
-    let mut count = 0;
-    for i in 0..places.len() {
-        let p = places[i];
-        if stands::<E>(p) {
-            places[count] = p;
-            count += 1;
-        }
-    }
-    vacate::<E>(&mut places[count..]);
-    count
+    E::from_place(place).is_none()
 }
 
 // Adds an entry behind the others; refused, with the entries as they were, exactly when every place is taken.
 pub fn add<E: TableEntry>(places: &mut [E::Place], entry: E) -> Result<(), Full>
-    ensures room { is_ok result ≡ nat_lt (length (entries E.TableEntry.live places.old)) (length places.old) }
-    ensures entries { entries E.TableEntry.live places.new ≡ (if is_ok result then entries E.TableEntry.live places.old ++ (E.TableEntry.place entry ∷ []) else entries E.TableEntry.live places.old) }
-    ensures taken { entries E.TableEntry.live places.new ≡ added (length places.old) (entries E.TableEntry.live places.old) (E.TableEntry.place entry) }
+    ensures room { is_ok result ≡ nat_lt (length (entries E.live places.old)) (length places.old) }
+    ensures entries { entries E.live places.new ≡ (if is_ok result then entries E.live places.old ++ (E.place entry ∷ []) else entries E.live places.old) }
+    ensures taken { entries E.live places.new ≡ added (length places.old) (entries E.live places.old) (E.place entry) }
 {
-    let count = compact::<E>(places);
-    if count < places.len() {
-        places[count] = entry.to_place();
-        Ok(())
-    } else {
-        Err(Full)
-    }
+    let free = places
+        .iter()
+        .position(|place| is_free::<E>(*place))
+        .ok_or(Full)?;
+    // The place goes behind all others, whose order stays.
+    places[free..].rotate_left(1);
+    let last = places.len() - 1;
+    places[last] = entry.to_place();
+    Ok(())
 }
 
 // Whether a removal takes what stands in a place.
-fn takes<E: TableEntry>(p: E::Place, by: Selection) -> bool
-    ensures { result ≡ (if E.TableEntry.live p then E.TableEntry.chosen by p else false) }
+fn takes<E: TableEntry>(place: E::Place, by: Selection) -> bool
+    ensures { result ≡ (if E.live place then E.chosen by place else false) }
 {
-    match E::from_place(p) {
-        Some(entry) => entry.is_selected(by),
-        None => false,
-    }
+    E::from_place(place).is_some_and(|entry| entry.is_selected(by))
 }
 
 // Removes every entry that is selected; answers how many there were.
 pub fn remove<E: TableEntry>(places: &mut [E::Place], by: Selection) -> usize
-    ensures entries { entries E.TableEntry.live places.new ≡ filter (λ p. not (E.TableEntry.chosen by p)) (entries E.TableEntry.live places.old) }
-    ensures count { result ≡ length (filter (E.TableEntry.chosen by) (entries E.TableEntry.live places.old)) }
+    ensures entries { entries E.live places.new ≡ filter (λ p. not (E.chosen by p)) (entries E.live places.old) }
+    ensures count { result ≡ length (filter (E.chosen by) (entries E.live places.old)) }
 {
     let mut count = 0;
-    for i in 0..places.len() {
-        let p = places[i];
-        if takes::<E>(p, by) {
-            places[i] = E::free();
+    for place in places.iter_mut() {
+        if takes::<E>(*place, by) {
+            *place = E::free();
             count += 1;
         }
     }

@@ -18,11 +18,7 @@ impl Clock {
     {
         let millis = (self.millis + 1) % 86_400_000;
         self.millis = millis;
-        if millis % 1000 == 0 {
-            Some(millis / 1000)
-        } else {
-            None
-        }
+        millis.is_multiple_of(1000).then_some(millis / 1000)
     }
 
     // The beginning of a second of the day; a number of 86,400 or more is no second, and the clock stays.

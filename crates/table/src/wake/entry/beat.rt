@@ -41,18 +41,12 @@ impl Wake {
         ensures { result ≡ rang second (wake_place_of self) }
     {
         let WakePlace { cycle, phase, .. } = self.place;
-        if self.rings(second) {
-            return if cycle == 0 {
-                Phase::Spent
-            } else {
-                Phase::Counts { left: cycle }
-            };
-        }
+        let rings = self.rings(second);
         match phase {
-            Phase::Counts { left } => Phase::Counts {
-                left: left.saturating_sub(1),
-            },
-            phase => phase,
+            _ if rings && cycle == 0 => Phase::Spent,
+            _ if rings => Phase::Counts { left: cycle },
+            Phase::Counts { left } => Phase::Counts { left: left - 1 },
+            Phase::Waits | Phase::Spent => phase,
         }
     }
 }
