@@ -21,29 +21,14 @@ impl Target for Last {
     ghost tells = { told_of };
 
     fn fire(&mut self, firing: Firing) -> Event {
-        let last = self.task;
-        match firing {
-            Firing::Start { task, .. } => {
-                self.task = task;
-                if task == last {
-                    Event {
-                        kind: Kind::Missed,
-                        task,
-                    }
-                } else {
-                    Event {
-                        kind: Kind::Accepted,
-                        task,
-                    }
-                }
-            }
-            Firing::Rouse { task } => {
-                self.task = task;
-                Event {
-                    kind: Kind::Wakened,
-                    task,
-                }
-            }
-        }
+        let (Firing::Start { task, .. } | Firing::Rouse { task }) = firing;
+        let task = task.get();
+        let kind = match firing {
+            Firing::Start { .. } if task == self.task => Kind::Missed,
+            Firing::Start { .. } => Kind::Accepted,
+            Firing::Rouse { .. } => Kind::Wakened,
+        };
+        self.task = task;
+        Event { kind, task }
     }
 }

@@ -1,10 +1,11 @@
 use crate::target::Last;
+use numbers::{Factor, Task};
 use sheet::{Event, Kind};
 use std::process::Abort;
 use std::test::Fail;
 use table::clock::Clock;
 use table::entry::TableEntry;
-use table::row;
+use table::row::{self, Full};
 use table::selection::Selection;
 use table::timer::{Timer, TimerPlace};
 use table::wake::{Phase, Wake, WakePlace};
@@ -16,25 +17,20 @@ const NO_EVENT: Event = Event {
     task: 0,
 };
 
+fn numbered(task: u8) -> Result<Task, Fail> {
+    Ok(Task::new(task).ok_or("no such task")?)
+}
+
 fn timer(task: u8, wait: u32, cycle: u32) -> Result<Timer, Fail> {
-    if task < 1 || task > 127 {
-        return Err(Fail::new("no such task"));
-    }
-    Ok(Timer::timer(task, 16, wait, cycle))
+    Ok(Timer::timer(numbered(task)?, Factor::within(16), wait, cycle))
 }
 
 fn delay(task: u8, wait: u32) -> Result<Timer, Fail> {
-    if task < 1 || task > 127 {
-        return Err(Fail::new("no such task"));
-    }
-    Ok(Timer::delay(task, wait))
+    Ok(Timer::delay(numbered(task)?, wait))
 }
 
 fn wake(task: u8, second: u32, cycle: u32) -> Result<Wake, Fail> {
-    if task < 1 || task > 127 {
-        return Err(Fail::new("no such task"));
-    }
-    Ok(Wake::waiting(task, 16, second, cycle))
+    Ok(Wake::waiting(numbered(task)?, Factor::within(16), second, cycle))
 }
 
 fn beat<E: TableEntry>(
@@ -50,35 +46,33 @@ fn beat<E: TableEntry>(
 }
 
 // One timer of a beat for each of these tasks, all accepted.
-fn add_timers(rt: &impl Abort, places: &mut [TimerPlace], first: u8, last: u8) -> Result<(), Fail> {
+fn add_timers(places: &mut [TimerPlace], first: u8, last: u8) -> Result<(), Fail> {
     for task in first..=last {
-        assert!(rt; row::add::<Timer>(places, timer(task, 1, 0)?));
+        row::add::<Timer>(places, timer(task, 1, 0)?)?;
     }
     Ok(())
 }
 
 // A wake at midnight for each of these tasks, all accepted.
-fn add_wakes(rt: &impl Abort, places: &mut [WakePlace], first: u8, last: u8) -> Result<(), Fail> {
+fn add_wakes(places: &mut [WakePlace], first: u8, last: u8) -> Result<(), Fail> {
     for task in first..=last {
-        assert!(rt; row::add::<Wake>(places, wake(task, 0, 0)?));
+        row::add::<Wake>(places, wake(task, 0, 0)?)?;
     }
     Ok(())
 }
 
 // The event at this place of the sheet.
-fn told(rt: &impl Abort, sheet: &[Event], at: usize, word: &str, task: u8) {
-    assert!(rt; at < sheet.len());
-    let event = sheet[at];
+fn told(rt: &impl Abort, sheet: &[Event], at: usize, word: &str, task: u8) -> Result<(), Fail> {
+    let event = sheet.get(at).ok_or("the sheet is short")?;
     assert_eq!(rt; event.task, task);
     assert!(rt; event.kind.word() == word);
+    Ok(())
 }
 
 // Starts of the tasks from 1 on, accepted one after the other, fill the sheet.
 fn told_in_order(rt: &impl Abort, sheet: &[Event]) {
-    let mut task: u8 = 0;
-    for event in sheet {
-        assert!(rt; task < 127);
-        task += 1;
+    assert!(rt; sheet.len() <= 127);
+    for (event, task) in sheet.iter().zip(1..=127) {
         assert_eq!(rt; event.task, task);
         assert!(rt; event.kind.word() == "accepted");
     }
@@ -103,24 +97,24 @@ fn beats_of_one_entry(rt: HostRuntime) -> Result<(), Fail> {
     let mut places = [Timer::free(); 3];
     let mut sheet = [NO_EVENT; 3];
     let mut target = Last { task: 0 };
-    assert!(rt; row::add::<Timer>(&mut places, timer(1, 1, 1)?));
-    assert!(rt; row::add::<Timer>(&mut places, timer(2, 2, 3)?));
-    assert!(rt; row::add::<Timer>(&mut places, delay(3, 3)?));
-    assert!(rt; !row::add::<Timer>(&mut places, timer(4, 4, 0)?));
+    row::add::<Timer>(&mut places, timer(1, 1, 1)?)?;
+    row::add::<Timer>(&mut places, timer(2, 2, 3)?)?;
+    row::add::<Timer>(&mut places, delay(3, 3)?)?;
+    assert_eq!(rt; row::add::<Timer>(&mut places, timer(4, 4, 0)?), Err(Full));
     assert_eq!(rt; beat::<Timer>(&mut places, (), &mut target, &mut sheet)?, 1);
-    told(&rt, &sheet, 0, "accepted", 1);
+    told(&rt, &sheet, 0, "accepted", 1)?;
     assert_eq!(rt; beat::<Timer>(&mut places, (), &mut target, &mut sheet)?, 2);
-    told(&rt, &sheet, 0, "missed", 1);
-    told(&rt, &sheet, 1, "accepted", 2);
+    told(&rt, &sheet, 0, "missed", 1)?;
+    told(&rt, &sheet, 1, "accepted", 2)?;
     assert_eq!(rt; beat::<Timer>(&mut places, (), &mut target, &mut sheet)?, 2);
-    told(&rt, &sheet, 0, "accepted", 1);
-    told(&rt, &sheet, 1, "wakened", 3);
+    told(&rt, &sheet, 0, "accepted", 1)?;
+    told(&rt, &sheet, 1, "wakened", 3)?;
     // The delay is gone, and its place is free.
-    assert!(rt; row::add::<Timer>(&mut places, timer(4, 1, 0)?));
+    row::add::<Timer>(&mut places, timer(4, 1, 0)?)?;
     assert_eq!(rt; beat::<Timer>(&mut places, (), &mut target, &mut sheet)?, 2);
-    told(&rt, &sheet, 1, "accepted", 4);
+    told(&rt, &sheet, 1, "accepted", 4)?;
     assert_eq!(rt; beat::<Timer>(&mut places, (), &mut target, &mut sheet)?, 2);
-    told(&rt, &sheet, 1, "accepted", 2);
+    told(&rt, &sheet, 1, "accepted", 2)?;
     Ok(())
 }
 
@@ -129,7 +123,7 @@ fn longest_wait(rt: HostRuntime) -> Result<(), Fail> {
     let mut places = [Timer::free(); 1];
     let mut sheet = [NO_EVENT; 1];
     let mut target = Last { task: 0 };
-    assert!(rt; row::add::<Timer>(&mut places, timer(127, DAY, DAY)?));
+    row::add::<Timer>(&mut places, timer(127, DAY, DAY)?)?;
     assert_eq!(rt; beat::<Timer>(&mut places, (), &mut target, &mut sheet)?, 0);
     assert_eq!(rt; places[0].wait, DAY - 1);
     places[0].wait = 2;
@@ -142,11 +136,11 @@ fn longest_wait(rt: HostRuntime) -> Result<(), Fail> {
 #[test]
 fn full_tables(rt: HostRuntime) -> Result<(), Fail> {
     let mut timers = [Timer::free(); 64];
-    add_timers(&rt, &mut timers, 1, 64)?;
-    assert!(rt; !row::add::<Timer>(&mut timers, timer(65, 1, 0)?));
+    add_timers(&mut timers, 1, 64)?;
+    assert_eq!(rt; row::add::<Timer>(&mut timers, timer(65, 1, 0)?), Err(Full));
     let mut wakes = [Wake::free(); 32];
-    add_wakes(&rt, &mut wakes, 1, 32)?;
-    assert!(rt; !row::add::<Wake>(&mut wakes, wake(33, 0, 0)?));
+    add_wakes(&mut wakes, 1, 32)?;
+    assert_eq!(rt; row::add::<Wake>(&mut wakes, wake(33, 0, 0)?), Err(Full));
     Ok(())
 }
 
@@ -155,10 +149,10 @@ fn removal_in_the_middle(rt: HostRuntime) -> Result<(), Fail> {
     let mut places = [Timer::free(); 4];
     let mut sheet = [NO_EVENT; 4];
     let mut target = Last { task: 0 };
-    assert!(rt; row::add::<Timer>(&mut places, timer(1, 1, 0)?));
-    assert!(rt; row::add::<Timer>(&mut places, timer(2, 1, 0)?));
-    assert!(rt; row::add::<Timer>(&mut places, delay(2, 1)?));
-    assert!(rt; row::add::<Timer>(&mut places, timer(4, 1, 0)?));
+    row::add::<Timer>(&mut places, timer(1, 1, 0)?)?;
+    row::add::<Timer>(&mut places, timer(2, 1, 0)?)?;
+    row::add::<Timer>(&mut places, delay(2, 1)?)?;
+    row::add::<Timer>(&mut places, timer(4, 1, 0)?)?;
     // The timer of task 2 goes, and its delay, which has no factor, stays.
     assert_eq!(rt;
         row::remove::<Timer>(&mut places, Selection::Set { task: 2, factor: 0 }),
@@ -174,12 +168,12 @@ fn removal_in_the_middle(rt: HostRuntime) -> Result<(), Fail> {
         ),
         1
     );
-    assert!(rt; row::add::<Timer>(&mut places, timer(5, 1, 0)?));
+    row::add::<Timer>(&mut places, timer(5, 1, 0)?)?;
     assert_eq!(rt; beat::<Timer>(&mut places, (), &mut target, &mut sheet)?, 4);
-    told(&rt, &sheet, 0, "accepted", 1);
-    told(&rt, &sheet, 1, "wakened", 2);
-    told(&rt, &sheet, 2, "accepted", 4);
-    told(&rt, &sheet, 3, "accepted", 5);
+    told(&rt, &sheet, 0, "accepted", 1)?;
+    told(&rt, &sheet, 1, "wakened", 2)?;
+    told(&rt, &sheet, 2, "accepted", 4)?;
+    told(&rt, &sheet, 3, "accepted", 5)?;
     assert_eq!(rt; beat::<Timer>(&mut places, (), &mut target, &mut sheet)?, 0);
     Ok(())
 }
@@ -208,9 +202,9 @@ fn any_places(rt: HostRuntime) -> Result<(), Fail> {
     let mut sheet = [NO_EVENT; 6];
     let mut target = Last { task: 0 };
     assert_eq!(rt; beat::<Timer>(&mut places, (), &mut target, &mut sheet)?, 1);
-    told(&rt, &sheet, 0, "accepted", 127);
-    add_timers(&rt, &mut places, 1, 5)?;
-    assert!(rt; !row::add::<Timer>(&mut places, timer(6, 1, 0)?));
+    told(&rt, &sheet, 0, "accepted", 127)?;
+    add_timers(&mut places, 1, 5)?;
+    assert_eq!(rt; row::add::<Timer>(&mut places, timer(6, 1, 0)?), Err(Full));
     assert_eq!(rt; places[0].task, 127);
     Ok(())
 }
@@ -221,8 +215,8 @@ fn all_in_one_beat(rt: HostRuntime) -> Result<(), Fail> {
     let mut wakes = [Wake::free(); 32];
     let mut sheet = [NO_EVENT; 96];
     let mut target = Last { task: 0 };
-    add_timers(&rt, &mut timers, 1, 64)?;
-    add_wakes(&rt, &mut wakes, 65, 96)?;
+    add_timers(&mut timers, 1, 64)?;
+    add_wakes(&mut wakes, 65, 96)?;
     assert_eq!(rt;
         both(&rt, &mut timers, &mut wakes, &mut target, &mut sheet)?,
         96
@@ -233,8 +227,8 @@ fn all_in_one_beat(rt: HostRuntime) -> Result<(), Fail> {
         both(&rt, &mut timers, &mut wakes, &mut target, &mut sheet)?,
         0
     );
-    assert!(rt; row::add::<Timer>(&mut timers, timer(1, 1, 0)?));
-    assert!(rt; !row::add::<Wake>(&mut wakes, wake(1, 0, 0)?));
+    row::add::<Timer>(&mut timers, timer(1, 1, 0)?)?;
+    assert_eq!(rt; row::add::<Wake>(&mut wakes, wake(1, 0, 0)?), Err(Full));
     assert_eq!(rt;
         row::remove::<Wake>(
             &mut wakes,
@@ -245,7 +239,7 @@ fn all_in_one_beat(rt: HostRuntime) -> Result<(), Fail> {
         ),
         1
     );
-    assert!(rt; row::add::<Wake>(&mut wakes, wake(1, 0, 0)?));
+    row::add::<Wake>(&mut wakes, wake(1, 0, 0)?)?;
     Ok(())
 }
 
@@ -254,7 +248,7 @@ fn wake_with_a_cycle(rt: HostRuntime) -> Result<(), Fail> {
     let mut places = [Wake::free(); 1];
     let mut sheet = [NO_EVENT; 1];
     let mut target = Last { task: 0 };
-    assert!(rt; row::add::<Wake>(&mut places, wake(9, 86_399, 2)?));
+    row::add::<Wake>(&mut places, wake(9, 86_399, 2)?)?;
     assert_eq!(rt;
         beat::<Wake>(&mut places, 86_398, &mut target, &mut sheet)?,
         0
