@@ -1,5 +1,5 @@
 -- A row of places in which a free one goes behind all others, and an entry is written there.
-use Rattle.std.proofs.Common.{◌≡◌, ℕ, zero, suc, ◌-◌, ◌<◌, ◌≤◌, Bool, true, false, cond, not, ltb, None, List, [], ◌∷◌, ◌++◌, length, get_or, set, refl, ap, ◌∙◌, arith, rules}
+use Rattle.std.proofs.Common.{◌≡◌, ℕ, zero, suc, ◌-◌, ◌<◌, ◌≤◌, Bool, true, false, cond, not, ltb, None, List, [], ◌∷◌, ◌++◌, length, get_or, set, refl, ap, arith, rules}
 use Rattle.std.specs.List.{position, position_or_len, remove}
 use Rattle.std.proofs.lemmas.Bool.{lt-ltb, le-ltb}
 use Rattle.std.proofs.Math.Seq.{set-append_seam}
@@ -36,9 +36,4 @@ module _ {P : Type 0} (live : P → Bool) where
       ys ≡ remove xs i ++ (get_or xs i d ∷ []) → entries live (set ys (length ys - 1) q) ≡ entries live xs ++ (q ∷ [])
   added_last xs ys i d q lt free lives e =
       let at : length ys - 1 ≡ length (remove xs i) = omega (arith, ap length e, length-append (remove xs i) (get_or xs i d ∷ [])) in
-      ap (λ n. entries live (set ys n q)) at
-      ∙ ap (λ l. entries live (set l (length (remove xs i)) q)) e
-      ∙ ap (entries live) (set-append_seam (remove xs i) (get_or xs i d) [] q)
-      ∙ filter-append live (remove xs i) (q ∷ [])
-      ∙ ap (λ l. l ++ entries live (q ∷ [])) (without_free xs i d lt free)
-      ∙ ap (λ b. entries live xs ++ cond b (q ∷ []) []) lives
+      grind (arith, common_steps, at, e, set-append_seam (remove xs i) (get_or xs i d) [] q, filter-append live (remove xs i) (q ∷ []), without_free xs i d lt free)

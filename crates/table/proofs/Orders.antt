@@ -1,8 +1,9 @@
 -- What a table takes while its places suffice, and that it refuses where they do not.
-use Rattle.std.proofs.Common.{◌≡◌, ℕ, ◌<◌, ◌≤◌, ltb, List, [], ◌∷◌, ◌++◌, length, refl, ap, ◌∙◌, arith, Option}
+use Rattle.std.proofs.Common.{◌≡◌, ℕ, ◌<◌, ◌≤◌, List, [], ◌∷◌, ◌++◌, length, refl, arith, Option}
+use Rattle.std.proofs.lemmas.Grind.{common_steps}
 use Rattle.std.proofs.lemmas.List.{length-append}
-use Rattle.std.proofs.lemmas.Bool.{lt-ltb, le-ltb, cond-true, cond-false}
-use Rattle.table.specs.Rows.{lefts, added}
+use Rattle.std.proofs.lemmas.Bool.{lt-ltb, le-ltb}
+use Rattle.table.specs.Rows.{lefts}
 use Rattle.table.specs.Times.{Deed, Deed.asks, Deed.beats, endless, limited, refusals, Fits}
 
 module _ {P B : Type 0} (after : B → P → Option P) (size : ℕ) where
@@ -20,16 +21,10 @@ module _ {P B : Type 0} (after : B → P → Option P) (size : ℕ) where
   takes es (beats b ∷ ds) h = takes (lefts (after b) es) ds h.1
   takes es (asks p ∷ ds) h =
       let room = lt-ltb (length es) size (place_left es p ds h.1) in
-      let more = cond-true (ltb (length es) size) (es ++ (p ∷ [])) es room in
       let rest = takes (es ++ (p ∷ [])) ds h.1 in
-      let none : refusals after size (added size es p) ds ≡ 0 = ap (λ l. refusals after size l ds) more ∙ rest.1 in
-      let zero = cond-true {A = ℕ} (ltb (length es) size) 0 1 room in (
-        ap (λ l. limited after size l ds) more ∙ rest.0,
-        omega (arith, none, zero),
-      )
+      (grind (arith, common_steps), grind (arith, common_steps))
 
   pub refuses : (es : List P) (p : P) → size ≤ length es → (refusals after size es (asks p ∷ []) ≡ 1) × (limited after size es (asks p ∷ []) ≡ es)
   refuses es p le =
       let full = le-ltb (length es) size le in
-      let one = cond-false {A = ℕ} (ltb (length es) size) 0 1 full in
-      (omega (arith, one), cond-false (ltb (length es) size) (es ++ (p ∷ [])) es full)
+      (grind (arith, common_steps), grind (arith, common_steps))

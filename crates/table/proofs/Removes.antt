@@ -1,24 +1,18 @@
 -- A loop that removes what is selected, place by place.
-use Rattle.std.proofs.Common.{◌≡◌, ℕ, ◌+◌, Bool, true, false, cond, not, List, [], ◌∷◌, ◌++◌, length, filter, refl, ap, ◌∙◌, arith, rules}
+use Rattle.std.proofs.Common.{◌≡◌, ℕ, ◌+◌, Bool, true, false, cond, not, List, [], ◌∷◌, ◌++◌, length, filter, refl, arith, rules}
 use Rattle.std.specs.List.{flat_map}
-use Rattle.std.proofs.lemmas.List.{length-append}
-use Rattle.std.proofs.lemmas.List.Elements.{filter-append}
+use Rattle.std.proofs.lemmas.Grind.{common_steps}
 use Rattle.table.specs.Rows.{entries}
 
 module _ {X : Type 0} (m : X → Bool) where
   -- to drop what passes is to keep what does not
   pub joined_drop : (xs : List X) → flat_map (λ x. cond (m x) [] (x ∷ [])) xs ≡ filter (λ x. not (m x)) xs
   joined_drop [] = refl
-  joined_drop (x ∷ xs) =
-      ap (λ l. cond (m x) [] (x ∷ []) ++ l) (joined_drop xs)
-      ∙ elim (m x) as (λ b. cond b [] (x ∷ []) ++ filter (λ y. not (m y)) xs ≡ cond (not b) (x ∷ filter (λ y. not (m y)) xs) (filter (λ y. not (m y)) xs)) [ true ↦ refl | false ↦ refl ]
+  joined_drop (x ∷ xs) = grind (arith, common_steps, joined_drop xs)
 
   -- how many passed, with k more
   pub counted_more : (n : ℕ) (xs ys zs : List X) (k : ℕ) → zs ≡ xs ++ ys → n ≡ length (filter m xs) → k ≡ length (filter m ys) → n + k ≡ length (filter m zs)
-  counted_more n xs ys zs k e h i =
-      let s : length (filter m zs) ≡ length (filter m xs) + length (filter m ys) =
-      ap (λ l. length (filter m l)) e ∙ ap length (filter-append m xs ys) ∙ length-append (filter m xs) (filter m ys) in
-      omega arith
+  counted_more n xs ys zs k e h i = grind (arith, common_steps)
 
 module _ {P : Type 0} (live m : P → Bool) where
   -- an entry that is selected is set free and counted

@@ -1,6 +1,7 @@
 -- A wake over any number of beats.
 use Rattle.std.proofs.Common.{◌≡◌, ℕ, zero, suc, ◌+◌, ◌-◌, ◌*◌, ◌<◌, ◌≤◌, cond, eqb, ◌⊎◌, Some, None, sym, refl, ap, ◌∙◌, inl, inr, zero-mul, arith}
-use Rattle.std.proofs.lemmas.Bool.{lt-leb, eq-eqb, ne_eqb, cases_eq, cases_lt, cases_order}
+use Rattle.std.proofs.lemmas.Bool.{cases_eq, cases_lt, cases_order}
+use Rattle.std.proofs.lemmas.Bool.Decides.{nat_tests}
 use Rattle.table.specs.declared.firing.Firing.TheVariants.{Start}
 use Rattle.table.specs.declared.wake.Phase.{Phase}
 use Rattle.table.specs.declared.wake.Phase.TheVariants.{Waits, Counts, Spent}
@@ -44,23 +45,23 @@ module _ (day : ℕ → ℕ) (task factor second cycle : ℕ) where
 
   -- a beat of a wake that waits
   rings_now : (s : ℕ) → second ≡ s → wake_after s (wake Waits) ≡ Some (wake rung)
-  rings_now s e = ap (λ b. Some (wake (cond b rung Waits))) (eq-eqb second s e)
+  rings_now s e = grind (arith, nat_tests)
 
   still_waits : (s : ℕ) → (second ≡ s → ⊥) → wake_after s (wake Waits) ≡ Some (wake Waits)
-  still_waits s ne = ap (λ b. Some (wake (cond b rung Waits))) (ne_eqb second s ne)
+  still_waits s ne = grind (arith, nat_tests)
 
   starts_now : (s : ℕ) → second ≡ s → wake_fires s (wake Waits) ≡ Some (Start task factor)
-  starts_now s e = ap (λ b. cond b (Some (Start task factor)) None) (eq-eqb second s e)
+  starts_now s e = grind (arith, nat_tests)
 
   starts_not : (s : ℕ) → (second ≡ s → ⊥) → wake_fires s (wake Waits) ≡ None
-  starts_not s ne = ap (λ b. cond b (Some (Start task factor)) None) (ne_eqb second s ne)
+  starts_not s ne = grind (arith, nat_tests)
 
   -- a beat of a wake that counts
   counts_on : (s r : ℕ) → 2 ≤ r → wake_after s (wake (Counts r)) ≡ Some (wake (Counts (r - 1)))
-  counts_on s r two = ap (λ b. Some (wake (cond b rung (Counts (r - 1))))) (lt-leb r 1 (omega arith))
+  counts_on s r two = grind (arith, nat_tests)
 
   counts_not : (s r : ℕ) → 2 ≤ r → wake_fires s (wake (Counts r)) ≡ None
-  counts_not s r two = ap (λ b. cond b (Some (Start task factor)) None) (lt-leb r 1 (omega arith))
+  counts_not s r two = grind (arith, nat_tests)
 
   -- after n beats it still waits
   record Waiting (n : ℕ) : Type 0 where
@@ -148,7 +149,7 @@ module _ (day : ℕ → ℕ) (task factor second cycle : ℕ) (cycles : 1 ≤ cy
     between : Between at cycle n wait
 
   counts : rung day task factor second cycle ≡ Counts cycle
-  counts = ap (λ b. cond b Spent (Counts cycle)) (ne_eqb cycle 0 (λ e. omega arith))
+  counts = grind (arith, nat_tests)
 
   between_rung : (n : ℕ) → Between n cycle n cycle
   between_rung n = record { count = 1; some = cycles; next = omega arith; soon = inl (omega arith) }

@@ -16,7 +16,8 @@ pub struct Beaten<E> {
 }
 
 // A kind of entry. The places of its table are plain records of a type of its own: an entry is made from a place after
-// a test, and a place that fails the test is free.
+// a test, and a place that fails the test is free. The test is two lines in each kind, and a type that holds any kind's
+// place would need a trait for its two numbers.
 pub trait TableEntry: Copy {
     type Place: Copy;
 
@@ -45,6 +46,7 @@ pub trait TableEntry: Copy {
     fn free() -> Self::Place
         ensures { result ≡ vacant };
 
+    // These two are no TryFrom and From, whose contracts are relations that a law would have to tie to `live` and `place`.
     fn from_place(p: Self::Place) -> Option<Self>
         ensures { MatchOption result (live p ≡ false) (λ e. (live p ≡ true) × (place e ≡ p)) };
 

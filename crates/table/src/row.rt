@@ -1,7 +1,8 @@
 //! A row of places, lent by the station for each call, and what is done to its entries. Their order is the order of
-//! acceptance, whatever the places they stand in; nothing is asked of what a place holds.
+//! acceptance, whatever the places they stand in; nothing is asked of what a place holds. The slice is lent as it is, since
+//! a struct round it would have to say in each caller's contract what becomes of the slice when the loan is over.
 
-ghost use Rattle.std.specs.Prelude.{◌≡◌, ◌≤◌, false, not, [], ◌∷◌, ◌++◌, length, is_ok, if◌then◌else◌, filter, nat_lt};
+ghost use Rattle.std.specs.Prelude.{◌≡◌, ◌≤◌, false, not, [], ◌∷◌, ◌++◌, length, is_ok, if◌then◌else◌, filter, nat_lt, position};
 ghost use Rattle.sheet.specs.Sheets.{written};
 ghost use Rattle.table.specs.Rows.{entries, lefts, listed, firings, all_fired, all_told, added};
 
@@ -57,6 +58,7 @@ pub fn beat<E: TableEntry, T: Target>(
     ensures count { result ≡ length (all_told T.fired T.tells (T.seen target.old) (firings (E.fires beat) (entries E.live places.old))) }
     ensures within { result ≤ length places.old }
 {
+    // Told events are counted and written by number: nothing is known of the places after an adapter of `iter_mut`.
     let mut told = 0;
     for place in places.iter_mut() {
         if let Some(event) = strike::<E, T>(place, beat, target) {
@@ -67,23 +69,23 @@ pub fn beat<E: TableEntry, T: Target>(
     told
 }
 
-// Whether no entry stands in a place.
-fn is_free<E: TableEntry>(place: E::Place) -> bool
-    ensures { result ≡ not (E.live place) }
+// The first free place, if there is one.
+fn first_free<E: TableEntry>(places: &[E::Place]) -> Option<usize>
+    ensures { result ≡ position (λ p. not (E.live p)) places.now }
 {
-    E::from_place(place).is_none()
+    places
+        .iter()
+        .position(|place| E::from_place(*place).is_none())
 }
 
 // Adds an entry behind the others; refused, with the entries as they were, exactly when every place is taken.
+#[tactic(auto, using(crate::proofs::Adds::all_taken))]
 pub fn add<E: TableEntry>(places: &mut [E::Place], entry: E) -> Result<(), Full>
     ensures room { is_ok result ≡ nat_lt (length (entries E.live places.old)) (length places.old) }
     ensures entries { entries E.live places.new ≡ (if is_ok result then entries E.live places.old ++ (E.place entry ∷ []) else entries E.live places.old) }
     ensures taken { entries E.live places.new ≡ added (length places.old) (entries E.live places.old) (E.place entry) }
 {
-    let free = places
-        .iter()
-        .position(|place| is_free::<E>(*place))
-        .ok_or(Full)?;
+    let free = first_free::<E>(places).ok_or(Full)?;
     // The place goes behind all others, whose order stays.
     places[free..].rotate_left(1);
     let last = places.len() - 1;
@@ -103,6 +105,7 @@ pub fn remove<E: TableEntry>(places: &mut [E::Place], by: Selection) -> usize
     ensures entries { entries E.live places.new ≡ filter (λ p. not (E.chosen by p)) (entries E.live places.old) }
     ensures count { result ≡ length (filter (E.chosen by) (entries E.live places.old)) }
 {
+    // Counted beside the loop, for the same reason as in `beat`.
     let mut count = 0;
     for place in places.iter_mut() {
         if takes::<E>(*place, by) {

@@ -1,5 +1,6 @@
 //! Which entries a removal takes.
 
+// Plain numbers, since any may be asked; one out of range matches no entry.
 #[derive(Clone, Copy, PartialEq, Eq)]
 pub enum Selection {
     // What a cancel by task and factor matches.

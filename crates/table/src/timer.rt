@@ -4,7 +4,7 @@ pub mod entry;
 
 pub use entry::Timer;
 
-// A place of the timer table: plain numbers, with no invariant.
+// A place of the timer table: plain numbers with no invariant, so that a row may hold any.
 #[derive(Clone, Copy)]
 pub struct TimerPlace {
     pub delay: bool,

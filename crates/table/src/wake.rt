@@ -15,7 +15,7 @@ pub enum Phase {
     Spent,
 }
 
-// A place of the wake table: a plain record, with no invariant.
+// A place of the wake table: plain numbers with no invariant, so that a row may hold any.
 #[derive(Clone, Copy)]
 pub struct WakePlace {
     pub task: u8,

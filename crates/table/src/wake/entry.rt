@@ -4,7 +4,8 @@ ghost use Rattle.std.specs.Prelude.{◌≤◌};
 
 use crate::wake::WakePlace;
 
-// A wake starts its task at the next beat whose time of day is its second, and then at each `cycle`-th beat.
+// A wake starts its task at the next beat whose time of day is its second, and then at each `cycle`-th beat. It holds
+// its place as a timer does.
 #[derive(Clone, Copy)]
 pub struct Wake {
     place: WakePlace,

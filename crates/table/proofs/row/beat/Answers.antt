@@ -1,8 +1,5 @@
-use Rattle.std.proofs.Common.{◌≡◌, ◌<◌, ◌≤◌, length, take, ap, ◌∙◌, subst, arith, rules}
-use Rattle.std.proofs.lemmas.List.{take_all}
-use Rattle.sheet.proofs.Fronts.{Writing, writing_all, writing_count}
-use Rattle.table.specs.Rows.{entries, firings, all_fired, all_told}
-use Rattle.table.proofs.Beats.{going_split, going_more, going_all, fired_more, told_more, writing_some, writing_same}
+use Rattle.std.proofs.Common.{◌<◌, length, arith, rules}
+use Rattle.table.proofs.Beats.{going_split, going_more, fired_more, told_more, writing_some, writing_same}
 use Rattle.table.proofs.row.beat.Goals as goal
 use Rattle.table.proofs.row.beat.Goals.{in-Some, in_default}
 
@@ -34,23 +31,3 @@ loop-place-preserved g c =
         within = omega arith;
       }
     ]
-
-pub returns : goal.returns
-returns g c =
-    let live = g.E.TableEntry.live in
-    let fires = g.E.TableEntry.fires c.args.beat in
-    let fired = g.T.Target.fired in
-    let tells = g.T.Target.tells in
-    let s = g.T.Target.seen c.args.target.now in
-    let so = c.loop-place.invariant in
-    let end : length c.args.places.now ≤ c.loop-place.place-index = omega arith in
-    let le : c.loop-place.told ≤ length c.loop-place.sheet = search rules in
-    let all : take c.loop-place.place-index c.args.places.now ≡ c.args.places.now = take_all c.loop-place.place-index c.args.places.now end in
-    let w = subst (λ ps. Writing (all_told fired tells s (firings fires (entries live ps))) c.args.sheet.now c.loop-place.sheet c.loop-place.told) all so.writing in
-    record {
-      entries = going_all so.going end;
-      target = so.fired ∙ ap (λ ps. all_fired fired s (firings fires (entries live ps))) all;
-      sheet = writing_all w le;
-      count = writing_count w le;
-      within = search rules;
-    }
