@@ -1,5 +1,5 @@
-pub mod Nested
-pub mod Cuts
+pub mod Factors
 pub mod Fires
-pub mod Smallest
+pub mod Records
+pub mod Rolls
 pub mod Totals

@@ -2,6 +2,7 @@
 
 #![tactic(auto)]
 
+mod factor_set;
 mod task_table;
 
 pub use task_table::TaskTable;

@@ -1,15 +1,38 @@
 //! The table of the tasks: their modes, present levels and factors, beside the roll of their starts.
 
-ghost use Rattle.std.specs.Prelude.{◌≡◌, ℕ, ◌<◌, ◌≤◌, [], length, slice_index, slice_index_or};
+ghost use Rattle.std.specs.Prelude.{◌≡◌, false};
+ghost use Rattle.roll.specs.Tables.{none};
+ghost use Rattle.tasks.specs.Factors.{members};
+
+use crate::factor_set::FactorSet;
+use numbers::Level;
 
 pub struct TaskTable<R> {
     roll: R,
-    released: [bool; 128],
-    levels: [u8; 128],
-    factors: [[bool; 17]; 128],
-    ghost ranked: { (t : ℕ) → slice_index levels t ≤ 4 },
-    ghost sized: { (length released ≡ 128) × (length levels ≡ 128) × (length factors ≡ 128) },
-    ghost seventeen: { (t : ℕ) → t < 128 → length (slice_index_or factors t []) ≡ 17 },
+    records: [TaskRecord; 128],
+}
+
+// What the table keeps of a task beside its starts.
+#[derive(Clone, Copy)]
+struct TaskRecord {
+    released: bool,
+    level: Level,
+    factors: FactorSet,
+}
+
+impl TaskRecord {
+    // A dormant task at this level, with no factor.
+    fn dormant(level: Level) -> TaskRecord
+        ensures mode { result.released ≡ false }
+        ensures level { result.level ≡ level }
+        ensures factors { members result.factors ≡ none }
+    {
+        TaskRecord {
+            released: false,
+            level,
+            factors: FactorSet::new(),
+        }
+    }
 }
 
 pub mod changes;

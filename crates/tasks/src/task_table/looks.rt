@@ -1,37 +1,25 @@
 //! What is read off the table.
 
-ghost use Rattle.std.specs.Prelude.{◌≡◌, ◌<◌, ◌≤◌, length, IfSome};
+ghost use Rattle.std.specs.Prelude.{◌≡◌, ◌<◌, length};
 ghost use Rattle.roll.specs.Model.{first_in};
 ghost use Rattle.sheet.specs.Sheets.{written};
-ghost use Rattle.rules.specs.State.{running};
+ghost use Rattle.rules.specs.State.{numbered, running};
 ghost use Rattle.rules.specs.Starts.{room_for};
 ghost use Rattle.rules.specs.Refusals.{turn};
 ghost use Rattle.tasks.specs.Views.{view};
 
 use crate::task_table::TaskTable;
+use numbers::Task;
 use roll::Roll;
 use sheet::{Event, Kind, tell};
 
 impl<R: Roll> TaskTable<R> {
     // The task with the processor, if there is one.
-    pub fn first(&mut self) -> Option<u8>
+    pub fn first(&mut self) -> Option<Task>
         ensures answer { result ≡ first_in (view R.Roll.meaning self.old).roll }
         ensures same { view R.Roll.meaning self.new ≡ view R.Roll.meaning self.old }
-        ensures within { IfSome result (λ t. (1 ≤ t) × (t ≤ 127)) }
     {
-        self.roll.first()
-    }
-
-    // The task with the processor; 0 means that it is idle.
-    pub fn running(&mut self) -> u8
-        ensures answer { result ≡ running (view R.Roll.meaning self.old) }
-        ensures same { view R.Roll.meaning self.new ≡ view R.Roll.meaning self.old }
-        ensures within { result ≤ 127 }
-    {
-        match self.roll.first() {
-            Some(task) => task,
-            None => 0,
-        }
+        self.roll.first().and_then(Task::new)
     }
 
     // Whether one start more would be accepted.
@@ -45,30 +33,26 @@ impl<R: Roll> TaskTable<R> {
     pub fn is_released(&self, task: u8) -> bool
         ensures { result ≡ (view R.Roll.meaning self.now).released task }
     {
-        task < 128 && self.released[task as usize]
+        self.records.get(task as usize).is_some_and(|record| record.released)
     }
 
     // How many starts stand on the roll: at most two for each of 127 tasks.
     pub fn total(&self) -> u8
         ensures { result ≡ length (view R.Roll.meaning self.now).roll.entries }
     {
-        let mut total = 0;
-        for task in 1..128u8 {
-            total += self.roll.count(task);
-        }
-        total
+        (1..128).map(|task| self.roll.count(task)).sum()
     }
 
     // Tells at the front of the sheet who has the processor now, if another task had it before or the start that had it
     // is over; answers how many events that were.
-    pub fn tell_turn(&mut self, was: u8, over: bool, sheet: &mut [Event]) -> usize
+    pub fn tell_turn(&mut self, was: Option<Task>, over: bool, sheet: &mut [Event]) -> usize
         requires { 0 < length sheet.old }
         ensures same { view R.Roll.meaning self.new ≡ view R.Roll.meaning self.old }
-        ensures count { result ≡ length (turn was over (running (view R.Roll.meaning self.old))) }
-        ensures sheet { sheet.new ≡ written (turn was over (running (view R.Roll.meaning self.old))) sheet.old }
+        ensures count { result ≡ length (turn (numbered was) over (running (view R.Roll.meaning self.old))) }
+        ensures sheet { sheet.new ≡ written (turn (numbered was) over (running (view R.Roll.meaning self.old))) sheet.old }
     {
-        let task = self.running();
-        if was == task && !over {
+        let task = told_of(self.first());
+        if told_of(was) == task && !over {
             return 0;
         }
         tell(
@@ -80,4 +64,11 @@ impl<R: Roll> TaskTable<R> {
         );
         1
     }
+}
+
+// The number by which an event tells of a task with the processor; 0 means that it is idle.
+fn told_of(task: Option<Task>) -> u8
+    ensures { result ≡ numbered task }
+{
+    task.map_or(0, Task::get)
 }

@@ -1,31 +1,24 @@
 //! The table as power-up makes it.
 
-ghost use Rattle.std.specs.Prelude.{◌≡◌, ℕ, ◌≤◌, length, slice_index};
+ghost use Rattle.std.specs.Prelude.{◌≡◌, length, slice_index};
 ghost use Rattle.rules.specs.Starts.{started_tasks};
 ghost use Rattle.tasks.specs.Views.{view};
 
-use crate::task_table::TaskTable;
+use crate::task_table::{TaskRecord, TaskTable};
+use numbers::Level;
 use roll::{Roll, clear_all};
 
 impl<R: Roll> TaskTable<R> {
     // Over an emptied roll, every task dormant but task 1, which is released and has one start. The levels are those
-    // that the station read from its book, where none is above 4.
-    pub fn powered(roll: R, levels: [u8; 128]) -> TaskTable<R>
-        requires sized { length levels ≡ 128 }
-        requires ranked { (t : ℕ) → slice_index levels t ≤ 4 }
+    // that the station read from its book.
+    pub fn powered(mut roll: R, levels: [Level; 128]) -> TaskTable<R>
         ensures { view R.Roll.meaning result ≡ started_tasks (λ t. slice_index levels t) }
     {
-        let mut roll = roll;
         clear_all(&mut roll);
-        let _ = roll.add(1, levels[1]);
-        let mut released = [false; 128];
-        released[1] = true;
-        TaskTable {
-            roll,
-            released,
-            levels,
-            factors: [[false; 17]; 128],
-        }
+        let _ = roll.add(1, levels[1].get());
+        let mut records = levels.map(TaskRecord::dormant);
+        records[1].released = true;
+        TaskTable { roll, records }
     }
 
     // Lets the table go; answers how many starts stood on its roll.
@@ -37,9 +30,7 @@ impl<R: Roll> TaskTable<R> {
         let total = self.total();
         let TaskTable {
             roll: _,
-            released: _,
-            levels: _,
-            factors: _,
+            records: _,
         } = self;
         total
     }

@@ -1,49 +1,45 @@
-//! The life of a start: accepted, put to sleep, roused, ended, cut. The calls have tested task, factor and room by the
-//! time they come here, so these are asked of them and proved by each.
+//! The life of a start: accepted, put to sleep, roused, ended, cut. The calls have tested room by the time they come
+//! here, so it is asked of them and proved by each.
 
 ghost use Rattle.std.specs.Prelude.{◌≡◌, ◌≤◌, true};
 ghost use Rattle.roll.specs.Model.{count_in};
-ghost use Rattle.rules.specs.State.{Tasks, running};
+ghost use Rattle.rules.specs.State.{Tasks};
 ghost use Rattle.rules.specs.Starts.{room_for, accepted, accepted_with, factored, finished, slept, stripped, fired, tells};
-ghost use Rattle.tasks.specs.Views.{view, FactorIn};
+ghost use Rattle.tasks.specs.Views.{view};
 
-use crate::task_table::TaskTable;
+use crate::task_table::{TaskRecord, TaskTable};
+use numbers::{Bounded, Factor, Level, Task};
 use roll::Roll;
 use sheet::{Event, Kind};
 use table::firing::{Firing, Target};
 
 impl<R: Roll> TaskTable<R> {
     // A start of the task is accepted at its present level.
-    fn accept(&mut self, task: u8)
-        requires range { (1 ≤ task) × (task ≤ 127) }
-        requires room { room_for (view R.Roll.meaning self.old) task ≡ true }
+    fn accept(&mut self, task: Task)
+        requires { room_for (view R.Roll.meaning self.old) task ≡ true }
         ensures { view R.Roll.meaning self.new ≡ accepted (view R.Roll.meaning self.old) task }
     {
-        let _ = self.roll.add(task, self.levels[task as usize]);
+        let number = task.get();
+        let level = self.records[number as usize].level;
+        let _ = self.roll.add(number, level.get());
     }
 
     // A start of the task is accepted, and the factor that it brings, if any, is set.
-    pub fn accept_with(&mut self, task: u8, factor: Option<u8>)
-        requires range { (1 ≤ task) × (task ≤ 127) }
-        requires room { room_for (view R.Roll.meaning self.old) task ≡ true }
-        requires factor { FactorIn factor }
+    pub fn accept_with(&mut self, task: Task, factor: Option<Factor>)
+        requires { room_for (view R.Roll.meaning self.old) task ≡ true }
         ensures { view R.Roll.meaning self.new ≡ accepted_with (view R.Roll.meaning self.old) task factor }
     {
         self.accept(task);
-        match factor {
-            Some(factor) => self.set_factor(task, factor),
-            None => {}
+        if let Some(factor) = factor {
+            self.set_factor(task, factor);
         }
     }
 
     // A factor of the task is set.
-    pub fn set_factor(&mut self, task: u8, factor: u8)
-        requires { (task ≤ 127) × (factor ≤ 16) }
-        ensures { view R.Roll.meaning self.new ≡ factored (view R.Roll.meaning self.old) task factor }
+    pub fn set_factor<const LOW: u8>(&mut self, task: Bounded<LOW, 127>, factor: Factor)
+        ensures { view R.Roll.meaning self.new ≡ factored (view R.Roll.meaning self.old) task.entry factor }
     {
-        let mut set = self.factors[task as usize];
-        set[factor as usize] = true;
-        self.factors[task as usize] = set;
+        self.records[task.get() as usize].factors.insert(factor);
     }
 
     // The current start of the task sleeps.
@@ -62,17 +58,15 @@ impl<R: Roll> TaskTable<R> {
 
     // All starts of the task are cut, and it is dormant, with no factor, no hold and its written level; answers how
     // many starts there were.
-    pub fn strip(&mut self, task: u8, written: u8) -> u8
-        requires { (1 ≤ task) × (task ≤ 127) × (written ≤ 4) }
+    pub fn strip(&mut self, task: Task, written: Level) -> u8
         ensures count { result ≡ count_in task (view R.Roll.meaning self.old).roll }
         ensures bound { result ≤ 2 }
         ensures state { view R.Roll.meaning self.new ≡ stripped (view R.Roll.meaning self.old) task written }
     {
-        let count = self.roll.clear(task);
-        let _ = self.roll.unhold(task);
-        self.released[task as usize] = false;
-        self.levels[task as usize] = written;
-        self.factors[task as usize] = [false; 17];
+        let number = task.get();
+        let count = self.roll.clear(number);
+        let _ = self.roll.unhold(number);
+        self.records[number as usize] = TaskRecord::dormant(written);
         count
     }
 }
@@ -96,7 +90,7 @@ impl<R: Roll> Target for TaskTable<R> {
                         task,
                     };
                 }
-                self.accept_with(task, Some(factor));
+                self.accept_with(Task::within(task), Some(Factor::within(factor)));
                 Event {
                     kind: Kind::Accepted,
                     task,

@@ -1,22 +1,20 @@
-use Rattle.std.proofs.Common.{◌≡◌, ℕ, ◌≤◌, IfSome, Some, None, Option, sym, ap, arith}
-use Rattle.rules.specs.State.{Tasks}
+use Rattle.std.specs.Prelude.{if◌then◌else◌, ◌&&◌, MatchOption}
+use Rattle.std.proofs.Common.{◌≡◌, ℕ, leb, Some, None, Option, sym, ◌∙◌, arith}
+use Rattle.std.proofs.lemmas.Bool.{le-leb}
 use Rattle.roll.specs.Model.{Model, first_in, Sound}
 use Rattle.roll.proofs.Firsts.{first_below}
-use Rattle.tasks.specs.Views.{view}
 use Rattle.tasks.proofs.task_table.TaskTable.first.Goals as goal
 
 -- the first of a roll, if there is one, is a task
-numbered : (m : Model) → Sound m → (o : Option ℕ) → o ≡ first_in m → IfSome o (λ t. (1 ≤ t) × (t ≤ 127))
-numbered m h None e = tt
-numbered m h (Some t) e = let w = first_below m.held m.entries t h.0.0 (sym e) in (omega (arith, w.0), omega (arith, w.1))
+a_task : (m : Model) → Sound m → (o r : Option ℕ) → o ≡ first_in m → MatchOption o (r ≡ None) (λ t. r ≡ (if leb 1 t && leb t 127 then Some t else None)) → r ≡ first_in m
+a_task m h None r e k = k ∙ e
+a_task m h (Some t) r e k =
+    let w = first_below m.held m.entries t h.0.0 (sym e) in
+    let a = le-leb 1 t (omega (arith, w.0)) in
+    let b = le-leb t 127 (omega (arith, w.1)) in
+    k ∙ rw (a, b) e
 
-pub returns : goal.returns
-returns g c =
-    let m = g.R.Roll.meaning c.args.self.now.roll in
-    let v = view g.R.Roll.meaning c.args.self.now in
-    let e = c.first.ensures in
-    record {
-      answer = e.answer;
-      same = ap (λ (x : Model). let r : Tasks = record { released = v.released; level = v.level; factors = v.factors; roll = x } in r) e.after;
-      within = numbered m (g.met.R.Roll.sound c.args.self.now.roll) c.first.result e.answer;
-    }
+pub returns-clause-answer : goal.returns-clause-answer
+returns-clause-answer g c =
+    let s = c.args.self.now.roll in
+    a_task (g.R.Roll.meaning s) (g.met.R.Roll.sound s) c.first.result c.and_then.result c.first.ensures.answer c.and_then.ensures

@@ -1,17 +1,23 @@
-use Rattle.std.proofs.Common.{ℕ, Bool, true, false, replicate, refl, ap, ◌∙◌, lit<}
-use Rattle.roll.specs.Tables.{put}
-use Rattle.roll.specs.Model.{after_add}
-use Rattle.roll.proofs.Tables.{table_put}
-use Rattle.tasks.proofs.Cuts.{same_tasks, none_table, nested_none, blank_rows, first_added, first_released}
+use Rattle.std.proofs.Common.{rules, arith, ◌≡◌, ℕ, ◌<◌, [], ◌∷◌, false, length, get_or, refl, ap, ◌∙◌}
+use Rattle.std.proofs.lemmas.List.{get_or_default}
+use Rattle.roll.specs.Tables.{none}
+use Rattle.roll.specs.Model.{Model, after_add}
+use Rattle.roll.specs.Entries.{awake}
+use Rattle.tasks.specs.Factors.{members}
+use Rattle.tasks.specs.Views.{blank}
+use Rattle.tasks.proofs.Rolls.{first_added}
+use Rattle.tasks.proofs.Records as records
 use Rattle.tasks.proofs.task_table.TaskTable.powered.Goals as goal
-
-pub invariant_of-result : goal.invariant_of-result
-invariant_of-result g c = record { ranked = c.requires.ranked; sized = (refl, c.requires.sized, refl); seventeen = blank_rows 128 17 }
 
 pub returns : goal.returns
 returns g c =
-    same_tasks
-    (table_put (replicate 128 false) 1 true false (lit< tt) ∙ ap (λ (f : ℕ → Bool). put f 1 true) (none_table 128) ∙ first_released)
-    refl
-    (nested_none 128 17)
-    (c.add.ensures.after ∙ ap (after_add 1 _) c.clear_all.ensures ∙ first_added _ (c.requires.ranked 1))
+    let ys = c.map-records.result in
+    let ls = c.args.levels in
+    let ly : length ys ≡ 128 = c.map-records.ensures.items.long in
+    let ll : length ls ≡ 128 = search rules in
+    let each : (i : ℕ) → i < 128 → ((get_or ys i blank).released ≡ false) × ((get_or ys i blank).level ≡ get_or ls i 0) × (members (get_or ys i blank).factors ≡ none) =
+        (λ i lt. let e = (c.map-records.ensures.items.at i 0 blank lt).2.met in (e.0, e.1.0, e.1.1)) in
+    let l = c.get.ensures.value ∙ get_or_default ls 1 c.index-levels-1.result 0 (omega (arith, ll)) in
+    let roll = c.add.ensures.after ∙ ap (after_add 1 c.get.result) c.clear_all.ensures ∙ first_added c.get.result c.get.ensures.range.1
+        ∙ ap (λ n. let r : Model = record { entries = awake 1 n ∷ []; held = none } in r) l in
+    records.powered ys ls 128 ly ll each g.R.Roll.meaning c.add.new.self _ c.index-records-1.result _ (omega arith) refl refl refl roll

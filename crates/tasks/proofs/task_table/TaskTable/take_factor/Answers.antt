@@ -1,17 +1,9 @@
-use Rattle.std.proofs.Common.{ℕ, ◌<◌, Bool, false, [], length, get_or, ap, arith}
-use Rattle.rules.specs.State.{Tasks}
-use Rattle.tasks.specs.Views.{view}
-use Rattle.tasks.proofs.Nested.{mark_put}
+use Rattle.std.proofs.Common.{rules, arith, ◌≡◌, false, length, refl}
+use Rattle.tasks.proofs.Records.{factor_put}
 use Rattle.tasks.proofs.task_table.TaskTable.take_factor.Goals as goal
 
-pub returns : goal.returns
-returns g c =
-    let s = c.args.self.now in
-    let lt : c.args.task < length s.factors = omega (arith, s.sized.2) in
-    let lx : c.in-Some.factor < length (get_or s.factors c.args.task []) = omega (arith, s.seventeen c.args.task (omega arith), c.in-Some.ensures.within) in
-    let v = view g.R.Roll.meaning s in
-    record {
-      answer = c.in-Some.ensures.value;
-      state = ap (λ (f : ℕ → ℕ → Bool). let r : Tasks = record { released = v.released; level = v.level; factors = f; roll = v.roll } in r)
-          (mark_put s.factors c.args.task c.in-Some.factor false lt lx);
-    }
+pub returns-in-Some-clause-state : goal.returns-in-Some-clause-state
+returns-in-Some-clause-state g c =
+    let xs = c.args.self.now.records in
+    let n : length xs ≡ 128 = search rules in
+    rw (← c.get.ensures.value) (factor_put g.R.Roll.meaning c.args.self.now.roll xs c.get.result _ c.index-self-get.result c.in-Some.factor false (omega (arith, n, c.get.ensures.range)) refl refl c.remove.ensures)

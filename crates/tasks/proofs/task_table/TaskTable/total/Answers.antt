@@ -1,26 +1,23 @@
-use Rattle.std.proofs.Common.{◌≡◌, sym, ap, ◌∙◌, arith}
-use Rattle.tasks.proofs.Totals.{before, before_first, before_more, before_all}
+use Rattle.std.proofs.Common.{ℕ, ◌∙◌, arith, rules}
+use Rattle.std.specs.List.{range_with_len}
+use Rattle.std.proofs.lemmas.Iterator.{YieldsList-from_map, YieldsList-from_range}
+use Rattle.std.proofs.lemmas.Iterator.Consumers.{sum_by_from_yields_List, fits_by_from_yields_list}
+use Rattle.roll.specs.Entries.{count_of}
+use Rattle.tasks.proofs.Totals.{counted_all, counted_fits}
 use Rattle.tasks.proofs.task_table.TaskTable.total.Goals as goal
 
-pub loop-task-init : goal.loop-task-init
-loop-task-init g c = let s = (g.met.R.Roll.sound c.args.self.now.roll).0 in (sym (before_first (g.R.Roll.meaning c.args.self.now.roll).entries s.0), omega arith)
-
-pub loop-task-preserved : goal.loop-task-preserved
-loop-task-preserved g c =
-    let m = (g.R.Roll.meaning c.args.self.now.roll).entries in
-    let s = (g.met.R.Roll.sound c.args.self.now.roll).0.1 c.loop-task.task in
-    let k = before_more c.loop-task.task m in
-    let e = c.count-total.ensures in
-    let i = c.loop-task.invariant in
-    (omega (arith, i.0, k, e), omega (arith, i.1, s, e))
-
-pub overflow_add-total : goal.overflow_add-total
-overflow_add-total g c =
-    let s = (g.met.R.Roll.sound c.args.self.now.roll).0.1 c.loop-task.task in
-    omega (arith, s, c.count-total.ensures, c.loop-task.invariant.1)
+pub sum-requires-clause-fits : goal.sum-requires-clause-fits
+sum-requires-clause-fits g c =
+    let es = (g.R.Roll.meaning c.args.self.now.roll).entries in
+    let count = (λ (t : ℕ). count_of t es) in
+    fits_by_from_yields_list count (range_with_len 1 127) c.map.result 256
+    (YieldsList-from_map _ count (YieldsList-from_range 1 128 127 c.map.ensures.source (omega arith)) c.map.ensures.closure (λ x r q k. search rules))
+    (counted_fits es (g.met.R.Roll.sound c.args.self.now.roll).0)
 
 pub returns : goal.returns
 returns g c =
-    let s = (g.met.R.Roll.sound c.args.self.now.roll).0 in
-    let e : c.loop-task.task ≡ 128 = omega arith in
-    c.loop-task.invariant.0 ∙ ap (λ n. before n (g.R.Roll.meaning c.args.self.now.roll).entries) e ∙ before_all (g.R.Roll.meaning c.args.self.now.roll).entries s.0
+    let es = (g.R.Roll.meaning c.args.self.now.roll).entries in
+    let count = (λ (t : ℕ). count_of t es) in
+    sum_by_from_yields_List count (range_with_len 1 127) c.map.result c.sum.result c.sum.ensures.ran
+    (YieldsList-from_map _ count (YieldsList-from_range 1 128 127 c.map.ensures.source (omega arith)) c.map.ensures.closure (λ x r q k. search rules))
+    ∙ counted_all es (g.met.R.Roll.sound c.args.self.now.roll).0

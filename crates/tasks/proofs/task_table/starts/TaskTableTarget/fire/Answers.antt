@@ -11,6 +11,6 @@ returns-else-not-has_room g c =
     let released : s.released t ≡ true = search rules in
     let h = start_taken s c.args.firing t x c.in-Start.is released (sym c.if-not-has_room.ensures) in
     record {
-      state = c.accept_with.ensures ∙ h.0;
+      state = c.accept_with.ensures ∙ rw (c.within.ensures, c.within-in-Start.ensures) h.0;
       event = h.1;
     }
