@@ -1,10 +1,11 @@
 //! The life of a start: accepted, put to sleep, roused, ended, cut. The calls have tested room by the time they come
 //! here, so it is asked of them and proved by each.
 
-ghost use Rattle.std.specs.Prelude.{◌≡◌, ◌≤◌, true};
+ghost use Rattle.std.specs.Prelude.{◌≡◌, ◌≤◌, true, if◌then◌else◌};
+ghost use Rattle.sheet.specs.declared.event.Kind.TheVariants.{Accepted, Missed};
 ghost use Rattle.roll.specs.Model.{count_in};
 ghost use Rattle.rules.specs.State.{Tasks};
-ghost use Rattle.rules.specs.Starts.{room_for, accepted, accepted_with, factored, finished, slept, stripped, fired, tells};
+ghost use Rattle.rules.specs.Starts.{room_for, accepted, accepted_with, factored, finished, slept, stripped, takes, fired, tells};
 ghost use Rattle.tasks.specs.Views.{view};
 
 use crate::task_table::{TaskRecord, TaskTable};
@@ -32,6 +33,19 @@ impl<R: Roll> TaskTable<R> {
         self.accept(task);
         if let Some(factor) = factor {
             self.set_factor(task, factor);
+        }
+    }
+
+    // A start of the task is accepted with its factor, or missed where the task is dormant or has two.
+    fn start(&mut self, task: Task, factor: Factor) -> Kind
+        ensures state { view R.Roll.meaning self.new ≡ (if takes (view R.Roll.meaning self.old) task then factored (accepted (view R.Roll.meaning self.old) task) task factor else view R.Roll.meaning self.old) }
+        ensures kind { result ≡ (if takes (view R.Roll.meaning self.old) task then Accepted else Missed) }
+    {
+        if self.is_released(task.get()) && self.has_room(task.get()) {
+            self.accept_with(task, Some(factor));
+            Kind::Accepted
+        } else {
+            Kind::Missed
         }
     }
 
@@ -82,27 +96,16 @@ impl<R: Roll> Target for TaskTable<R> {
     ghost tells = { tells };
 
     fn fire(&mut self, firing: Firing) -> Event {
-        match firing {
-            Firing::Start { task, factor } => {
-                if !self.is_released(task) || !self.has_room(task) {
-                    return Event {
-                        kind: Kind::Missed,
-                        task,
-                    };
-                }
-                self.accept_with(Task::within(task), Some(Factor::within(factor)));
-                Event {
-                    kind: Kind::Accepted,
-                    task,
-                }
-            }
+        let (kind, task) = match firing {
+            Firing::Start { task, factor } => (self.start(task, factor), task),
             Firing::Rouse { task } => {
-                let _ = self.roll.rouse(task);
-                Event {
-                    kind: Kind::Wakened,
-                    task,
-                }
+                let _ = self.roll.rouse(task.get());
+                (Kind::Wakened, task)
             }
+        };
+        Event {
+            kind,
+            task: task.get(),
         }
     }
 }
