@@ -57,10 +57,10 @@ pub factor_put : {R : Type 0} (meaning : R → Model) (roll : R) (xs : List Task
 factor_put meaning roll xs t r d x b lt p q e =
     let k = get_or_default xs t d blank lt in
     records_put meaning roll xs t r (modes xs t) (levels xs t) (put (factors xs t) x b) (meaning roll) lt
-        (p ∙ ap (λ (y : TaskRecord). y.released) k)
-        (q ∙ ap (λ (y : TaskRecord). y.level) k)
-        (e ∙ ap (λ (y : TaskRecord). put (members y.factors) x b) k)
-        refl
+    (p ∙ ap (λ (y : TaskRecord). y.released) k)
+    (q ∙ ap (λ (y : TaskRecord). y.level) k)
+    (e ∙ ap (λ (y : TaskRecord). put (members y.factors) x b) k)
+    refl
     ∙ same_tasks (put_kept (modes xs) t (modes xs t) refl) (put_kept (levels xs) t (levels xs t) refl) refl refl
 
 -- at power-up each record is dormant, and then task 1 is released
@@ -93,11 +93,11 @@ module _ (ys : List TaskRecord) (ls : List ℕ) (n : ℕ) (ly : length ys ≡ n)
       let lo : 1 < length ys = omega (arith, ly) in
       let k = get_or_default ys 1 d blank lo in
       records_put meaning roll ys 1 r true (levels ys 1) (factors ys 1) m lo p
-          (q ∙ ap (λ (y : TaskRecord). y.level) k)
-          (ap members e ∙ ap (λ (y : TaskRecord). members y.factors) k)
-          h
+      (q ∙ ap (λ (y : TaskRecord). y.level) k)
+      (ap members e ∙ ap (λ (y : TaskRecord). members y.factors) k)
+      h
       ∙ same_tasks
-          (ap (λ (f : ℕ → Bool). put f 1 true) no_modes ∙ first_released)
-          (put_kept (levels ys) 1 (levels ys 1) refl ∙ same_levels)
-          (put_kept (factors ys) 1 (factors ys 1) refl ∙ no_factors)
-          refl
+      (ap (λ (f : ℕ → Bool). put f 1 true) no_modes ∙ first_released)
+      (put_kept (levels ys) 1 (levels ys 1) refl ∙ same_levels)
+      (put_kept (factors ys) 1 (factors ys 1) refl ∙ no_factors)
+      refl

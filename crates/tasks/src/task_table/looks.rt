@@ -9,7 +9,7 @@ ghost use Rattle.rules.specs.Refusals.{turn};
 ghost use Rattle.tasks.specs.Views.{view};
 
 use crate::task_table::TaskTable;
-use numbers::Task;
+use numbers::{Bounded, Task};
 use roll::Roll;
 use sheet::{Event, Kind, tell};
 
@@ -33,7 +33,9 @@ impl<R: Roll> TaskTable<R> {
     pub fn is_released(&self, task: u8) -> bool
         ensures { result ≡ (view R.Roll.meaning self.now).released task }
     {
-        self.records.get(task as usize).is_some_and(|record| record.released)
+        self.records
+            .get(task as usize)
+            .is_some_and(|record| record.released)
     }
 
     // How many starts stand on the roll: at most two for each of 127 tasks.
@@ -44,12 +46,17 @@ impl<R: Roll> TaskTable<R> {
     }
 
     // Tells at the front of the sheet who has the processor now, if another task had it before or the start that had it
-    // is over; answers how many events that were.
-    pub fn tell_turn(&mut self, was: Option<Task>, over: bool, sheet: &mut [Event]) -> usize
+    // is over; answers how many events that were. `was` may be of any range, since it is only compared.
+    pub fn tell_turn<const LOW: u8, const HIGH: u8>(
+        &mut self,
+        was: Option<Bounded<LOW, HIGH>>,
+        over: bool,
+        sheet: &mut [Event],
+    ) -> usize
         requires { 0 < length sheet.old }
         ensures same { view R.Roll.meaning self.new ≡ view R.Roll.meaning self.old }
-        ensures count { result ≡ length (turn (numbered was) over (running (view R.Roll.meaning self.old))) }
-        ensures sheet { sheet.new ≡ written (turn (numbered was) over (running (view R.Roll.meaning self.old))) sheet.old }
+        ensures count { result ≡ length (turn (numbered was.entry) over (running (view R.Roll.meaning self.old))) }
+        ensures sheet { sheet.new ≡ written (turn (numbered was.entry) over (running (view R.Roll.meaning self.old))) sheet.old }
     {
         let task = told_of(self.first());
         if told_of(was) == task && !over {
@@ -67,8 +74,8 @@ impl<R: Roll> TaskTable<R> {
 }
 
 // The number by which an event tells of a task with the processor; 0 means that it is idle.
-fn told_of(task: Option<Task>) -> u8
-    ensures { result ≡ numbered task }
+fn told_of<const LOW: u8, const HIGH: u8>(task: Option<Bounded<LOW, HIGH>>) -> u8
+    ensures { result ≡ numbered task.entry }
 {
-    task.map_or(0, Task::get)
+    task.map_or(0, Bounded::get)
 }

@@ -6,4 +6,4 @@ pub returns : goal.returns
 returns g c =
     let xs = c.args.self.now.records in
     let n : length xs ≡ 128 = search rules in
-    rw (← c.get.ensures.value) (factor_put g.R.Roll.meaning c.args.self.now.roll xs c.get.result _ c.index-self-get.result c.args.factor true (omega (arith, n, c.get.ensures.range)) refl refl c.insert.ensures)
+    rw (← c.get.ensures.value) (factor_put g.R.Roll.meaning c.args.self.now.roll xs c.get.result _ _ c.args.factor true (omega (arith, n, c.get.ensures.range)) refl refl c.insert.ensures)
