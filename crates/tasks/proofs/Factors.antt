@@ -4,6 +4,8 @@ use mathlib.Core.Path.{fun_ext}
 use Rattle.std.specs.Prelude.{if◌then◌else◌, ◌&&◌}
 use Rattle.std.specs.Int.{bit_at, bit_not, trailing_zeros}
 use Rattle.std.proofs.lemmas.Bool.{cases_eq, cases_lt, cond-true, cond-false, le-leb, lt-leb}
+use Rattle.std.proofs.Math.Pow.{pow-lt}
+use Rattle.std.proofs.lemmas.Nat.{or_lt, and_le_l}
 use Rattle.std.proofs.lemmas.Nat.Bits.{bit_at-zero, bit_at_and, bit_at_above, bit_at_set_same, bit_at_set_other, bit_at_clear_same, bit_at_clear_other, bit_at-trailing_zeros}
 use Rattle.std.specs.Int.Count.{trailing_of_zero}
 use Rattle.roll.specs.Tables.{put, none}
@@ -17,7 +19,17 @@ set_bits n x = eqb (bit_at n x) 1
 pub set_bits-zero : set_bits 0 ≡ none
 set_bits-zero = fun_ext (λ x. ap (λ b. eqb b 1) (bit_at-zero x))
 
--- one bit is set
+-- one bit is set, among the 17
+pub below_with : (n k : ℕ) → n < 2 ^ 17 → k ≤ 16 → bit_or n (1 * 2 ^ k % 2 ^ 32) < 2 ^ 17
+below_with n k fits le =
+    let lt : k < 17 = omega arith in
+    let p : 2 ^ k < 2 ^ 17 = pow-lt lt in
+    or_lt 17 n (1 * 2 ^ k % 2 ^ 32) fits (omega (arith, p))
+
+-- one bit is cleared
+pub below_without : (n m : ℕ) → n < 2 ^ 17 → bit_and n m < 2 ^ 17
+below_without n m fits = omega (arith, and_le_l n m)
+
 pub set_bits_with : (n k : ℕ) → k < 32 → set_bits (bit_or n (1 * 2 ^ k % 2 ^ 32)) ≡ put (set_bits n) k true
 set_bits_with n k lt = fun_ext at
   where

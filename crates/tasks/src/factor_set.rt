@@ -1,52 +1,12 @@
 //! The factors of a task that are set.
 
-ghost use Rattle.std.specs.Prelude.{◌≡◌, true, false};
-ghost use Rattle.roll.specs.Tables.{put, none};
-ghost use Rattle.rules.specs.Effects.{smallest};
-ghost use Rattle.tasks.specs.Factors.{members};
+ghost use Rattle.std.specs.Prelude.{◌^◌, ◌<◌};
 
-use numbers::Factor;
-
-// A bit for each factor.
+// A bit for each of the 17 factors.
 #[derive(Clone, Copy)]
 pub struct FactorSet {
     bits: u32,
+    ghost seventeen: { bits < 2 ^ 17 },
 }
 
-impl FactorSet {
-    // The set that has no factor in it.
-    pub fn new() -> FactorSet
-        ensures { members result ≡ none }
-    {
-        FactorSet { bits: 0 }
-    }
-
-    // Whether the factor is in the set.
-    pub fn has(self, factor: Factor) -> bool
-        ensures { result ≡ members self factor }
-    {
-        (self.bits >> factor.get()) & 1 == 1
-    }
-
-    // Puts the factor into the set.
-    pub fn insert(&mut self, factor: Factor)
-        ensures { members self.new ≡ put (members self.old) factor true }
-    {
-        self.bits |= 1 << factor.get();
-    }
-
-    // Takes the factor out of the set.
-    pub fn remove(&mut self, factor: Factor)
-        ensures { members self.new ≡ put (members self.old) factor false }
-    {
-        let bits = self.bits;
-        self.bits = bits & !(1 << factor.get());
-    }
-
-    // The smallest factor of the set, if there is one.
-    pub fn smallest(self) -> Option<Factor>
-        ensures { result ≡ smallest 17 0 (members self) }
-    {
-        Factor::new(self.bits.trailing_zeros() as u8)
-    }
-}
+pub mod members;

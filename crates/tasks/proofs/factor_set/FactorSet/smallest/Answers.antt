@@ -1,9 +1,6 @@
-use Rattle.std.proofs.Common.{rules, ◌<◌, ◌^◌, sym, ◌∙◌}
+use Rattle.std.proofs.Common.{sym, ◌∙◌, arith}
 use Rattle.tasks.proofs.Factors.{smallest-lowest}
 use Rattle.tasks.proofs.factor_set.FactorSet.smallest.Goals as goal
 
 pub returns : goal.returns
-returns c =
-    let fits : c.args.self.bits < 2 ^ 32 = search rules in
-    let h = smallest-lowest c.args.self.bits fits in
-    c.new.ensures ∙ sym h
+returns c = c.new.ensures ∙ sym (smallest-lowest c.args.self.bits (omega (arith, c.args.self.seventeen)))
