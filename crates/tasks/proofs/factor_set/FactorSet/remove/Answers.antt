@@ -1,9 +1,9 @@
-use Rattle.std.proofs.Common.{arith}
-use Rattle.tasks.proofs.Factors.{set_bits_without, below_without}
+use Rattle.std.proofs.Common.{arith, rules}
+use Rattle.tasks.proofs.Factors.{set_bits_without, below_with, below_without}
 use Rattle.tasks.proofs.factor_set.FactorSet.remove.Goals as goal
 
 pub invariant_of-self : goal.invariant_of-self
-invariant_of-self c = record { seventeen = below_without c.args.self.now.bits _ c.args.self.now.seventeen }
+invariant_of-self c = search (rules, below_with, below_without)
 
 pub returns : goal.returns
 returns c = rw (← c.get.ensures.value) (set_bits_without c.args.self.now.bits c.get.result (omega (arith, c.args.self.now.seventeen)) (omega (arith, c.get.ensures.range)))
