@@ -1,4 +1,3 @@
-mod Numbers
 mod Moves
 mod Asks
 mod Rows

@@ -17,6 +17,13 @@ all_same n t x =
       | inr ge ↦ get_or_past (replicate n x) t x (simp length-replicate ge)
     ]
 
+same_position : {r r' x x' : ℕ} → r ≡ r' → x ≡ x' → ◌≡◌ {A = Position} (record { row = r; register = x }) (record { row = r'; register = x' })
+same_position p q = cc
+
+-- where both parts are 0
+pub at_beginning : (p : Position) → (p.row ≡ 0) × (p.register ≡ 0) → p ≡ beginning
+at_beginning p e = same_position e.0 e.1
+
 pub back_then : (ps qs : ℕ → Position) (e : Event) (p : Position) → true ≡ finishes e.kind → p ≡ beginning → qs ≡ put ps e.task p → qs ≡ set_back ps e
 back_then ps qs e p h q w =
     w ∙ ap (λ (x : Position). put ps e.task x) q ∙ ap (λ (b : Bool). cond b (put ps e.task beginning) ps) h

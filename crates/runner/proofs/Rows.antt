@@ -1,6 +1,6 @@
 -- The rows of a script, and what is done at one.
 use Rattle.std.proofs.Common.{◌≡◌, ℕ, zero, suc, ◌^◌, ◌<◌, ◌≤◌, Bool, true, false, cond, ◌||◌, ltb, List, [], ◌∷◌, get_or, Some, None, Option, sym, refl, ap, ◌∙◌, arith, Bor}
-use Rattle.std.proofs.lemmas.Bool.{both_ways, or_parts, ltb-false, eq-eqb, ne_eqb}
+use Rattle.std.proofs.lemmas.Bool.{both_ways, or_parts, ltb-false, ne_eqb}
 use Rattle.book.specs.declared.faults.Fault.{Fault}
 use Rattle.book.specs.declared.faults.Cause.TheVariants.{Size}
 use Rattle.book.specs.declared.sections.TaskRow.{TaskRow}
@@ -61,18 +61,15 @@ same_progress {s} {s'} {p} {p'} a b =
     ap (λ (x : Station). let r : Progress = record { station = x; positions = p } in r) a
     ∙ ap (λ (x : ℕ → Position). let r : Progress = record { station = s'; positions = x } in r) b
 
--- what is done at a row by the task that has the processor
-pub row_idle : (b : List ℕ) (p q : Progress) (t : ℕ) → t ≡ processor p.station → q ≡ p → t ≡ 0 → nothing q ≡ row_done b p
+-- what is done at a row by the task that has the processor, or where none has it
+pub row_idle : (b : List ℕ) (p q : Progress) → 0 ≡ processor p.station → q ≡ p → nothing q ≡ row_done b p
 unfolding row_done
-row_idle b p q t e s z =
-    ap (λ (x : Progress). nothing x) s
-    ∙ ap (λ (f : Bool). cond f (nothing p) (does p t (instruction_of b t (p.positions t).row))) (sym (eq-eqb t 0 z))
-    ∙ ap (acted b p) e
+row_idle b p q e s = ap (λ (x : Progress). nothing x) s ∙ ap (acted b p) e
 
-pub row_does : (b : List ℕ) (p q : Progress) (t : ℕ) (o : Option Instruction) → t ≡ processor p.station → q ≡ p → (t ≡ 0 → ⊥) → o ≡ instruction_of b t (q.positions t).row → does q t o ≡ row_done b p
+pub row_does : (b : List ℕ) (p q : Progress) (t : ℕ) (o : Option Instruction) → t ≡ processor p.station → q ≡ p → 1 ≤ t → o ≡ instruction_of b t (q.positions t).row → does q t o ≡ row_done b p
 unfolding row_done
-row_does b p q t o e s z i =
+row_does b p q t o e s h i =
     ap (does q t) i
-    ∙ ap (λ (f : Bool). cond f (nothing q) (does q t (instruction_of b t (q.positions t).row))) (sym (ne_eqb t 0 z))
+    ∙ ap (λ (f : Bool). cond f (nothing q) (does q t (instruction_of b t (q.positions t).row))) (sym (ne_eqb t 0 (λ z. omega (arith, z, h))))
     ∙ ap (λ (x : Progress). acted b x t) s
     ∙ ap (acted b p) e

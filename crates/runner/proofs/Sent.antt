@@ -1,16 +1,10 @@
 -- What goes to a sink piece by piece.
-use Rattle.std.proofs.Common.{◌≡◌, ℕ, ◌+◌, ◌-◌, ◌<◌, ◌≤◌, List, [], ◌∷◌, ◌++◌, length, get_or, take, drop, sym, refl, ap, ◌∙◌, arith}
+use Rattle.std.proofs.Common.{◌≡◌, ℕ, ◌+◌, ◌<◌, ◌≤◌, List, [], ◌∷◌, ◌++◌, length, get_or, take, sym, refl, ap, ◌∙◌}
 use Rattle.std.proofs.lemmas.List.{take_more, take_all, flat_map_more, append_assoc}
 use Rattle.sheet.specs.declared.event.Event.{Event}
 use Rattle.sheet.specs.declared.event.Kind.TheVariants.{Accepted}
 use Rattle.sheet.specs.Events.{event}
-use Rattle.runner.specs.declared.buffer.Buffer.{Buffer}
 use Rattle.runner.specs.Lines.{line_of_event, lines_of_events}
-use Rattle.runner.specs.Sinks.{waiting, sent}
-
--- the first n records of a sheet, as a part of it
-pub front_part : {X : Type 0} (n : ℕ) (xs : List X) → take (n - 0) (drop 0 xs) ≡ take n xs
-front_part {X} n xs = let e : n - 0 ≡ n = omega arith in ap (λ (k : ℕ). take k xs) e
 
 lines_more : (step : ℕ) (es : List Event) (i : ℕ) → i < length es → lines_of_events step (take i es) ++ line_of_event step (get_or es i (event Accepted 0)) ≡ lines_of_events step (take (i + 1) es)
 lines_more step es i lt =
@@ -21,11 +15,6 @@ lines_both step [] b = refl
 lines_both step (e ∷ a) b = append_assoc (line_of_event step e) (lines_of_events step a) (lines_of_events step b) ∙ ap (λ (l : List ℕ). line_of_event step e ++ l) (lines_both step a b)
 
 module _ {M : Type 0} (took : M → List ℕ → M) where
-  module _ (none : (m : M) → took m [] ≡ m) where
-    -- what waits has been handed on
-    pub flushed : {S : Type 0} (state : S → M) (s s' : S) (b b' : Buffer) → state s' ≡ took (state s) (waiting b) → b'.len ≡ 0 → sent state took s' b' ≡ sent state took s b
-    flushed state s s' b b' e z = ap (λ (n : ℕ). took (state s') (take n b'.bytes)) z ∙ none (state s') ∙ e
-
   module _ (both : (m : M) (a b : List ℕ) → took (took m a) b ≡ took m (a ++ b)) where
     -- one piece after the other
     pub took_two : (m m₁ m₂ : M) (a b : List ℕ) → m₁ ≡ took m a → m₂ ≡ took m₁ b → m₂ ≡ took m (a ++ b)

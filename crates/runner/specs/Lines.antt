@@ -1,5 +1,5 @@
 -- The lines of a listing, as bytes. Numbers are in decimal.
-use Rattle.std.specs.Prelude.{ℕ, List, [], ◌∷◌, ◌++◌, take, codes, decimal}
+use Rattle.std.specs.Prelude.{ℕ, List, [], ◌∷◌, ◌++◌, codes, decimal}
 use Rattle.std.specs.List.{flat_map}
 use Rattle.sheet.specs.declared.event.Event.{Event}
 use Rattle.sheet.specs.Events.{word_of}
@@ -9,7 +9,7 @@ use Rattle.runner.specs.declared.line.Line.{Line}
 
 -- the bytes of a line
 abbrev pub bytes_of : Line → List ℕ
-bytes_of l = take l.len l.bytes
+bytes_of l = l.text.bytes
 
 -- one space, and the line feed that ends every line
 abbrev pub space : List ℕ

@@ -1,14 +1,63 @@
-//! Lines gathered in memory of a fixed size, so that one put serves many of them.
+//! Lines gathered on their way to a sink.
 
-ghost use Rattle.std.specs.Prelude.{◌≡◌, ◌≤◌, length};
+ghost use Rattle.std.specs.Prelude.{◌≡◌, [], OnOk};
+ghost use Rattle.runner.specs.Lines.{bytes_of, lines_of_events};
+ghost use Rattle.runner.specs.Sinks.{sent};
 
-// The first `len` bytes wait to be put; what stands behind them means nothing.
+use crate::line::{Line, event_line};
+use crate::sink::Sink;
+use arrayvec::ArrayString;
+use sheet::Event;
+
+// A sink, and the lines that wait for it in memory of a fixed size, so that one put serves many of them.
 #[derive(Drop)]
-pub struct Buffer {
-    bytes: [u8; 4096],
-    len: usize,
-    ghost sized: { length bytes ≡ 4096 },
-    ghost fits: { len ≤ 4096 },
+pub struct BufferedSink<'s, S> {
+    waiting: ArrayString<4096>,
+    sink: &'s mut S,
 }
 
-mod puts;
+impl<'s, S: Sink> BufferedSink<'s, S> {
+    pub(crate) fn new(sink: &'s mut S) -> BufferedSink<'s, S>
+        ensures same_reference { result.sink.ghost_name ≡ sink.entry.ghost_name }
+        ensures nothing { sent S.Sink.state S.Sink.took result ≡ S.Sink.state sink.old }
+    {
+        BufferedSink {
+            waiting: ArrayString::new(),
+            sink,
+        }
+    }
+
+    // Hands on all that waits.
+    pub(crate) fn flush(&mut self) -> Result<(), S::Error>
+        ensures same_reference { self.new.sink.ghost_name ≡ self.old.sink.ghost_name }
+        ensures sent { OnOk result (S.Sink.state self.new.sink.now ≡ sent S.Sink.state S.Sink.took self.old) }
+        ensures none { OnOk result (self.new.waiting.bytes ≡ []) }
+    {
+        self.sink.put(self.waiting.as_str().as_bytes())?;
+        self.waiting.clear();
+        Ok(())
+    }
+
+    // Adds a line; what waits is handed on first if there is no room for it.
+    pub(crate) fn add(&mut self, line: &Line) -> Result<(), S::Error>
+        ensures same_reference { self.new.sink.ghost_name ≡ self.old.sink.ghost_name }
+        ensures sent { OnOk result (sent S.Sink.state S.Sink.took self.new ≡ S.Sink.took (sent S.Sink.state S.Sink.took self.old) (bytes_of line.now)) }
+    {
+        if self.waiting.remaining_capacity() < 64 {
+            self.flush()?;
+        }
+        self.waiting.push_str(line.as_str());
+        Ok(())
+    }
+
+    // Adds a line for each event of a step.
+    pub(crate) fn add_events(&mut self, step: u32, events: &[Event]) -> Result<(), S::Error>
+        ensures same_reference { self.new.sink.ghost_name ≡ self.old.sink.ghost_name }
+        ensures sent { OnOk result (sent S.Sink.state S.Sink.took self.new ≡ S.Sink.took (sent S.Sink.state S.Sink.took self.old) (lines_of_events step events.now)) }
+    {
+        for event in events {
+            self.add(&event_line(step, *event))?;
+        }
+        Ok(())
+    }
+}

@@ -12,8 +12,7 @@ mod scripted;
 mod sink;
 
 pub use instruction::{Instruction, decode};
-pub use line::Line;
-pub use line::lines::{event_line, fault_line, left_line};
+pub use line::{Line, event_line, fault_line, left_line};
 pub use recorder::Recorder;
 pub use runs::run;
 pub use sink::Sink;

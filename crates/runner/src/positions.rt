@@ -3,7 +3,8 @@
 ghost use Rattle.std.specs.Prelude.{◌≡◌, length};
 
 /// The row that a task does next, and its register, which the answer of gfact goes into and which jumps look at.
-#[derive(Clone, Copy)]
+/// Both are 0 where a run begins.
+#[derive(Clone, Copy, PartialEq, Eq, Debug, Default)]
 pub struct Position {
     pub row: usize,
     pub register: u8,

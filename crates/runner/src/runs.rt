@@ -1,6 +1,6 @@
 //! A whole run: from the bytes of a book to the bytes of its listing.
 
-ghost use Rattle.std.specs.Prelude.{◌≡◌, length, OnOk};
+ghost use Rattle.std.specs.Prelude.{◌≡◌, OnOk};
 ghost use Rattle.book.specs.Reader.{steps_in};
 ghost use Rattle.runner.specs.Lines.{lines_of_events};
 ghost use Rattle.runner.specs.Scripts.{stepped};
@@ -9,8 +9,8 @@ ghost use Rattle.runner.specs.Listing.{powered_up, progress_after, step_lines, r
 ghost use Rattle.runner.specs.Views.{progress_in};
 ghost use Rattle.runner.specs.Sinks.{sent};
 
-use crate::buffer::Buffer;
-use crate::line::lines::{fault_line, left_line};
+use crate::buffer::BufferedSink;
+use crate::line::{fault_line, left_line};
 use crate::scripted::ScriptedStation;
 use crate::sink::Sink;
 use book::Book;
@@ -23,18 +23,15 @@ fn take_step<R: Roll, S: Sink>(
     scripted: &mut ScriptedStation<R>,
     book: Book<'_>,
     step: u32,
-    sheet: &mut [Event],
-    buffer: &mut Buffer,
-    sink: &mut S,
+    sheet: &mut [Event; LEAST_SHEET],
+    out: &mut BufferedSink<'_, S>,
 ) -> Result<(), S::Error>
-    requires { length sheet.old ≡ 100 }
+    ensures same_reference { out.new.sink.ghost_name ≡ out.old.sink.ghost_name }
     ensures progress { OnOk result (progress_in R.Roll.meaning R.Roll.lever scripted.new ≡ (stepped book.entry.bytes.now (progress_in R.Roll.meaning R.Roll.lever scripted.old)).progress) }
-    ensures lines { OnOk result (sent S.Sink.state S.Sink.took sink.new buffer.new ≡ S.Sink.took (sent S.Sink.state S.Sink.took sink.old buffer.old) (lines_of_events step (stepped book.entry.bytes.now (progress_in R.Roll.meaning R.Roll.lever scripted.old)).told)) }
+    ensures lines { OnOk result (sent S.Sink.state S.Sink.took out.new ≡ S.Sink.took (sent S.Sink.state S.Sink.took out.old) (lines_of_events step (stepped book.entry.bytes.now (progress_in R.Roll.meaning R.Roll.lever scripted.old)).told)) }
 {
-    let told = scripted.do_row(book, sheet);
-    buffer.add_events(step, &sheet[0..told], sink)?;
-    let told = scripted.do_tick(sheet);
-    buffer.add_events(step, &sheet[0..told], sink)?;
+    out.add_events(step, scripted.do_row(book, sheet))?;
+    out.add_events(step, scripted.do_tick(sheet))?;
     Ok(())
 }
 
@@ -42,17 +39,20 @@ fn take_step<R: Roll, S: Sink>(
 fn take_steps<R: Roll, S: Sink>(
     scripted: &mut ScriptedStation<R>,
     book: Book<'_>,
-    sheet: &mut [Event],
-    buffer: &mut Buffer,
-    sink: &mut S,
+    out: &mut BufferedSink<'_, S>,
 ) -> Result<(), S::Error>
-    requires sheet { length sheet.old ≡ 100 }
-    requires began { progress_in R.Roll.meaning R.Roll.lever scripted.old ≡ powered_up R.Roll.lever book.bytes.now }
+    requires { progress_in R.Roll.meaning R.Roll.lever scripted.old ≡ powered_up R.Roll.lever book.bytes.now }
+    ensures same_reference { out.new.sink.ghost_name ≡ out.old.sink.ghost_name }
     ensures progress { OnOk result (progress_in R.Roll.meaning R.Roll.lever scripted.new ≡ progress_after R.Roll.lever book.entry.bytes.now (steps_in book.entry.bytes.now)) }
-    ensures lines { OnOk result (sent S.Sink.state S.Sink.took sink.new buffer.new ≡ S.Sink.took (sent S.Sink.state S.Sink.took sink.old buffer.old) (step_lines R.Roll.lever book.entry.bytes.now (steps_in book.entry.bytes.now))) }
+    ensures lines { OnOk result (sent S.Sink.state S.Sink.took out.new ≡ S.Sink.took (sent S.Sink.state S.Sink.took out.old) (step_lines R.Roll.lever book.entry.bytes.now (steps_in book.entry.bytes.now))) }
 {
+    let blank = Event {
+        kind: Kind::Runs,
+        task: 0,
+    };
+    let mut sheet = [blank; LEAST_SHEET];
     for done in 0..book.steps() {
-        take_step(scripted, book, done + 1, sheet, buffer, sink)?;
+        take_step(scripted, book, done + 1, &mut sheet, out)?;
     }
     Ok(())
 }
@@ -61,10 +61,10 @@ fn take_steps<R: Roll, S: Sink>(
 fn carry_out<R: Roll + Drop, S: Sink>(
     roll: R,
     book: Book<'_>,
-    buffer: &mut Buffer,
-    sink: &mut S,
+    out: &mut BufferedSink<'_, S>,
 ) -> Result<(), S::Error>
-    ensures { OnOk result (sent S.Sink.state S.Sink.took sink.new buffer.new ≡ S.Sink.took (sent S.Sink.state S.Sink.took sink.old buffer.old) (run_lines R.Roll.lever book.entry.bytes.now)) }
+    ensures same_reference { out.new.sink.ghost_name ≡ out.old.sink.ghost_name }
+    ensures lines { OnOk result (sent S.Sink.state S.Sink.took out.new ≡ S.Sink.took (sent S.Sink.state S.Sink.took out.old) (run_lines R.Roll.lever book.entry.bytes.now)) }
 {
     let accepted = Event {
         kind: Kind::Accepted,
@@ -74,13 +74,12 @@ fn carry_out<R: Roll + Drop, S: Sink>(
         kind: Kind::Runs,
         task: 1,
     };
-    buffer.add_events(0, &[accepted, runs], sink)?;
-    let mut sheet = [accepted; LEAST_SHEET];
+    out.add_events(0, &[accepted, runs])?;
     let mut scripted = ScriptedStation::power_up(roll, book);
-    let outcome = take_steps(&mut scripted, book, &mut sheet, buffer, sink);
+    let outcome = take_steps(&mut scripted, book, out);
     let left = scripted.stop();
     outcome?;
-    buffer.add(&left_line(left), sink)?;
+    out.add(&left_line(left))?;
     Ok(())
 }
 
@@ -88,17 +87,17 @@ fn carry_out<R: Roll + Drop, S: Sink>(
 fn write_listing<R: Roll + Drop, S: Sink>(
     roll: R,
     bytes: &[u8],
-    buffer: &mut Buffer,
-    sink: &mut S,
+    out: &mut BufferedSink<'_, S>,
 ) -> Result<(), S::Error>
-    ensures { OnOk result (sent S.Sink.state S.Sink.took sink.new buffer.new ≡ S.Sink.took (sent S.Sink.state S.Sink.took sink.old buffer.old) (listing R.Roll.lever bytes.now)) }
+    ensures same_reference { out.new.sink.ghost_name ≡ out.old.sink.ghost_name }
+    ensures lines { OnOk result (sent S.Sink.state S.Sink.took out.new ≡ S.Sink.took (sent S.Sink.state S.Sink.took out.old) (listing R.Roll.lever bytes.now)) }
 {
     let reading = Book::read(bytes);
     if let Some(fault) = reading.fault {
-        buffer.add(&fault_line(fault), sink)?;
+        out.add(&fault_line(fault))?;
         return Ok(());
     }
-    carry_out(roll, reading.book, buffer, sink)?;
+    carry_out(roll, reading.book, out)?;
     Ok(())
 }
 
@@ -109,8 +108,8 @@ pub fn run<R: Roll + Drop, S: Sink>(roll: R, bytes: &[u8], sink: &mut S) -> Resu
     ensures lives { Lives R.Roll.lever bytes.now }
     ensures listing { OnOk result (S.Sink.state sink.new ≡ S.Sink.took (S.Sink.state sink.old) (listing R.Roll.lever bytes.now)) }
 {
-    let mut buffer = Buffer::new();
-    write_listing(roll, bytes, &mut buffer, sink)?;
-    buffer.flush(sink)?;
+    let mut out = BufferedSink::new(sink);
+    write_listing(roll, bytes, &mut out)?;
+    out.flush()?;
     Ok(())
 }

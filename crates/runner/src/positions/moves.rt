@@ -10,16 +10,6 @@ use rules::Macro;
 use sheet::{Event, Kind};
 
 impl Position {
-    // Where every run begins.
-    fn beginning() -> Position
-        ensures { result ≡ beginning }
-    {
-        Position {
-            row: 0,
-            register: 0,
-        }
-    }
-
     // The next row, after a macro; what gfact answers goes into the register.
     pub(crate) fn passed(self, m: Macro, answer: u8) -> Position
         requires { self.row < 2 ^ 32 }
@@ -45,10 +35,7 @@ impl Position {
         } else {
             self.row + 1
         };
-        Position {
-            row,
-            register: self.register,
-        }
+        Position { row, ..self }
     }
 }
 
@@ -56,10 +43,7 @@ impl Position {
 fn finishes(kind: Kind) -> bool
     ensures { result ≡ finishes kind }
 {
-    match kind {
-        Kind::Ended | Kind::Cut => true,
-        Kind::Accepted | Kind::Missed | Kind::Wakened | Kind::Runs => false,
-    }
+    matches!(kind, Kind::Ended | Kind::Cut)
 }
 
 impl Positions {
@@ -68,7 +52,7 @@ impl Positions {
         ensures { positions_in result ≡ (λ _. beginning) }
     {
         Positions {
-            places: [Position::beginning(); 256],
+            places: [Position::default(); 256],
         }
     }
 
@@ -92,7 +76,7 @@ impl Positions {
     {
         for event in events {
             if finishes(event.kind) {
-                self.put(event.task, Position::beginning());
+                self.put(event.task, Position::default());
             }
         }
     }

@@ -1,30 +1,45 @@
 //! The calls that a script makes of its station.
 
-ghost use Rattle.std.specs.Prelude.{◌≡◌, ◌≤◌, length, take};
-ghost use Rattle.rules.specs.declared.call.Call.TheVariants.{Macro as MacroOf, Tick as TickOf};
+ghost use Rattle.std.specs.Prelude.{◌≡◌, ◌≤◌, IfSome};
+ghost use Rattle.rules.specs.State.{numbered};
 ghost use Rattle.runner.specs.Scripts.{asked, after, processor};
 ghost use Rattle.runner.specs.Views.{station_in};
 
 use roll::Roll;
-use rules::{Answer, Call};
+use rules::{Call, LEAST_SHEET};
 use sheet::Event;
 use station::Live;
 
-// Makes a call on a sheet of a hundred records.
-pub(super) fn ask<R: Roll>(station: &mut Live<R>, call: Call, sheet: &mut [Event]) -> Answer
-    requires { length sheet.old ≡ 100 }
-    ensures station { station_in R.Roll.meaning R.Roll.lever station.new ≡ after (station_in R.Roll.meaning R.Roll.lever station.old) call }
-    ensures told { take result.told sheet.new ≡ (asked (station_in R.Roll.meaning R.Roll.lever station.old) call).told }
-    ensures factor { result.factor ≡ (asked (station_in R.Roll.meaning R.Roll.lever station.old) call).factor }
-    ensures within { result.told ≤ 100 }
-{
-    station.perform(call, sheet)
+// What came of a call: the events that it told, and beside them the factor that gfact took.
+#[derive(Clone, Copy)]
+pub struct Reply<'s> {
+    pub told: &'s [Event],
+    pub factor: u8,
 }
 
-// The task with the processor; 0 means that it is idle.
-pub(super) fn processor<R: Roll>(station: &mut Live<R>) -> u8
-    ensures answer { result ≡ processor (station_in R.Roll.meaning R.Roll.lever station.old) }
-    ensures same { station_in R.Roll.meaning R.Roll.lever station.new ≡ station_in R.Roll.meaning R.Roll.lever station.old }
+// Makes a call on a sheet of a hundred records.
+pub(super) fn ask<'s, R: Roll>(
+    station: &mut Live<R>,
+    call: Call,
+    sheet: &'s mut [Event; LEAST_SHEET],
+) -> Reply<'s>
+    ensures station { station_in R.Roll.meaning R.Roll.lever station.new ≡ after (station_in R.Roll.meaning R.Roll.lever station.old) call }
+    ensures told { result.told.now ≡ (asked (station_in R.Roll.meaning R.Roll.lever station.old) call).told }
+    ensures factor { result.factor ≡ (asked (station_in R.Roll.meaning R.Roll.lever station.old) call).factor }
 {
-    station.running()
+    let answer = station.perform(call, sheet);
+    Reply {
+        told: &sheet[..answer.told],
+        factor: answer.factor,
+    }
+}
+
+// The task with the processor, if there is one.
+#[tactic(auto, unfolding(crate::specs::Scripts::processor, crate::specs::Views::station_in))]
+pub(super) fn first<R: Roll>(station: &mut Live<R>) -> Option<u8>
+    ensures answer { numbered result ≡ processor (station_in R.Roll.meaning R.Roll.lever station.old) }
+    ensures same { station_in R.Roll.meaning R.Roll.lever station.new ≡ station_in R.Roll.meaning R.Roll.lever station.old }
+    ensures within { IfSome result (λ t. 1 ≤ t) }
+{
+    station.first()
 }

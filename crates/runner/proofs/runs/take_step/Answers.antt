@@ -1,8 +1,8 @@
-use Rattle.std.proofs.Common.{◌-◌, take, ap, ◌∙◌}
+use Rattle.std.proofs.Common.{ap, ◌∙◌}
 use Rattle.runner.specs.Scripts.{Progress, row_done, tick_done, stepped}
 use Rattle.runner.specs.Views.{progress_in}
 use Rattle.runner.specs.Sinks.{sent}
-use Rattle.runner.proofs.Sent.{front_part, events_both}
+use Rattle.runner.proofs.Sent.{events_both}
 use Rattle.runner.proofs.runs.take_step.Goals as goal
 
 pub returns : goal.returns
@@ -10,15 +10,14 @@ unfolding stepped
 returns g c =
     let b = c.args.book.bytes.now in
     let p = progress_in g.R.Roll.meaning g.R.Roll.lever c.args.scripted.now in
-    let row = c.do_row-told.ensures in
-    let tick = c.do_tick-told.ensures in
+    let row = c.do_row.ensures in
+    let tick = c.do_tick.ensures in
     let gone = sent g.S.Sink.state g.S.Sink.took in
-    let told = c.do_row-told.result in
-    let told' = c.do_tick-told.result in
     record {
+      same_reference = c.in_ok-add_events-2.ensures.same_reference ∙ c.in_ok-add_events.ensures.same_reference;
       progress = tick.progress ∙ ap (λ (x : Progress). (tick_done x).progress) row.progress;
-      lines = events_both g.S.Sink.took g.met.S.Sink.joined (gone c.args.sink.now c.args.buffer.now) (gone c.add_events.new.sink c.add_events.new.self) (gone c.add_events-2.new.sink c.add_events-2.new.self)
-          c.args.step (row_done b p).told (take (told - 0) c.do_row-told.new.sheet) (tick_done (row_done b p).progress).told (take (told' - 0) c.do_tick-told.new.sheet)
-          (front_part told c.do_row-told.new.sheet ∙ row.told) (front_part told' c.do_tick-told.new.sheet ∙ tick.told ∙ ap (λ (x : Progress). (tick_done x).told) row.progress)
-          c.in_ok-add_events.ensures c.in_ok-add_events-2.ensures;
+      lines = events_both g.S.Sink.took g.met.S.Sink.joined (gone c.args.out.now) (gone c.add_events.new.self) (gone c.add_events-2.new.self)
+          c.args.step (row_done b p).told c.do_row.result.now (tick_done (row_done b p).progress).told c.do_tick.result.now
+          row.told (tick.told ∙ ap (λ (x : Progress). (tick_done x).told) row.progress)
+          c.in_ok-add_events.ensures.sent c.in_ok-add_events-2.ensures.sent;
     }

@@ -1,4 +1,4 @@
-use Rattle.std.proofs.Common.{◌≡◌, ℕ, ◌+◌, sym, ap, ◌∙◌, arith}
+use Rattle.std.proofs.Common.{◌≡◌, ℕ, ◌+◌, sym, refl, ap, ◌∙◌, arith}
 use Rattle.book.specs.Reader.{steps_in}
 use Rattle.runner.specs.Lines.{lines_of_events}
 use Rattle.runner.specs.Scripts.{Progress, stepped}
@@ -12,8 +12,12 @@ pub loop-done-init : goal.loop-done-init
 loop-done-init g c =
     let b = c.args.book.bytes.now in
     let lever = g.R.Roll.lever in
-    let m = sent g.S.Sink.state g.S.Sink.took c.args.sink.now c.args.buffer.now in
-    (c.requires.began ∙ sym (after_none lever b), sym (ap (g.S.Sink.took m) (lines_none lever b) ∙ g.met.S.Sink.nothing m))
+    let m = sent g.S.Sink.state g.S.Sink.took c.args.out.now in
+    record {
+      same_reference = refl;
+      progress = c.requires ∙ sym (after_none lever b);
+      lines = sym (ap (g.S.Sink.took m) (lines_none lever b) ∙ g.met.S.Sink.nothing m);
+    }
 
 pub loop-done-preserved : goal.loop-done-preserved
 loop-done-preserved g c =
@@ -23,22 +27,25 @@ loop-done-preserved g c =
     let e = c.in_ok-take_step.ensures in
     let inv = c.loop-done.invariant in
     let gone = sent g.S.Sink.state g.S.Sink.took in
-    let m = gone c.args.sink.now c.args.buffer.now in
-    let m₁ = gone c.loop-done.sink c.loop-done.buffer in
-    let m₂ = gone c.take_step.new.sink c.take_step.new.buffer in
-    let lines = lines_of_events (n + 1) (stepped b (progress_after lever b n)).told in (
-      e.progress ∙ ap (λ (x : Progress). (stepped b x).progress) inv.0 ∙ sym (after_more lever b n),
-      took_two g.S.Sink.took g.met.S.Sink.joined m m₁ m₂ (step_lines lever b n) lines inv.1 (e.lines ∙ ap (λ (x : Progress). g.S.Sink.took m₁ (lines_of_events (n + 1) (stepped b x).told)) inv.0)
-          ∙ ap (g.S.Sink.took m) (sym (lines_after lever b n)),
-    )
+    let m = gone c.args.out.now in
+    let m₁ = gone c.loop-done.out in
+    let m₂ = gone c.take_step.new.out in
+    let lines = lines_of_events (n + 1) (stepped b (progress_after lever b n)).told in
+    record {
+      same_reference = e.same_reference ∙ inv.same_reference;
+      progress = e.progress ∙ ap (λ (x : Progress). (stepped b x).progress) inv.progress ∙ sym (after_more lever b n);
+      lines = took_two g.S.Sink.took g.met.S.Sink.joined m m₁ m₂ (step_lines lever b n) lines inv.lines (e.lines ∙ ap (λ (x : Progress). g.S.Sink.took m₁ (lines_of_events (n + 1) (stepped b x).told)) inv.progress)
+          ∙ ap (g.S.Sink.took m) (sym (lines_after lever b n));
+    }
 
 pub returns : goal.returns
 returns g c =
     let b = c.args.book.bytes.now in
     let lever = g.R.Roll.lever in
-    let m = sent g.S.Sink.state g.S.Sink.took c.args.sink.now c.args.buffer.now in
+    let m = sent g.S.Sink.state g.S.Sink.took c.args.out.now in
     let last : c.loop-done.done ≡ steps_in b = omega (arith, c.steps-done-end.ensures) in
     record {
-      progress = c.loop-done.invariant.0 ∙ ap (progress_after lever b) last;
-      lines = c.loop-done.invariant.1 ∙ ap (λ (n : ℕ). g.S.Sink.took m (step_lines lever b n)) last;
+      same_reference = c.loop-done.invariant.same_reference;
+      progress = c.loop-done.invariant.progress ∙ ap (progress_after lever b) last;
+      lines = c.loop-done.invariant.lines ∙ ap (λ (n : ℕ). g.S.Sink.took m (step_lines lever b n)) last;
     }

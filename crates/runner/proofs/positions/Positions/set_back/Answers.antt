@@ -2,7 +2,7 @@ use Rattle.std.proofs.Common.{◌<◌, ◌≤◌, length, get_or, sym, ap, ◌�
 use Rattle.sheet.specs.declared.event.Kind.TheVariants.{Accepted}
 use Rattle.sheet.specs.Events.{event}
 use Rattle.runner.specs.Views.{positions_in}
-use Rattle.runner.proofs.Moves.{back_then, back_else, back_more, back_all}
+use Rattle.runner.proofs.Moves.{at_beginning, back_then, back_else, back_more, back_all}
 use Rattle.runner.proofs.positions.Positions.set_back.Goals as goal
 use Rattle.runner.proofs.positions.Positions.set_back.Goals.{then-finishes, else-finishes}
 
@@ -15,7 +15,7 @@ loop-event-preserved c =
     let lt : i < length es = omega arith in
     back_more ps (positions_in c.if-finishes.self) es i lt
     (elim c.if-finishes.branch [
-      | then-finishes w ↦ ap positions_in w.self-is ∙ back_then ps (positions_in w.put.new.self) e w.beginning.result w.if-finishes.ensures w.beginning.ensures w.put.ensures
+      | then-finishes w ↦ ap positions_in w.self-is ∙ back_then ps (positions_in w.put.new.self) e w.default.result w.if-finishes.ensures (at_beginning w.default.result w.default.ensures) w.put.ensures
       | else-finishes w ↦ ap positions_in w.self-is ∙ back_else ps e w.if-finishes.ensures
     ])
     ∙ c.loop-event.invariant

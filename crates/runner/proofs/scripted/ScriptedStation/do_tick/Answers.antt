@@ -3,4 +3,4 @@ use Rattle.runner.proofs.scripted.ScriptedStation.do_tick.Goals as goal
 
 pub returns : goal.returns
 unfolding tick_done
-returns g c = record { progress = c.call.ensures.progress; told = c.call.ensures.told; within = c.call.ensures.within }
+returns g c = record { progress = c.call.ensures.progress; told = c.call.ensures.told }

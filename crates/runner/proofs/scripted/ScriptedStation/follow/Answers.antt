@@ -1,4 +1,4 @@
-use Rattle.std.proofs.Common.{Some, sym, ap, ◌∙◌, arith}
+use Rattle.std.proofs.Common.{Some, sym, ap, ◌∙◌}
 use Rattle.runner.specs.declared.instruction.Instruction.{Instruction}
 use Rattle.runner.specs.Scripts.{Outcome, does}
 use Rattle.runner.specs.Views.{progress_in}
@@ -11,7 +11,6 @@ returns-in-Macro g c =
     record {
       progress = c.issue.ensures.progress ∙ ap (λ (o : Outcome). o.progress) w;
       told = c.issue.ensures.told ∙ ap (λ (o : Outcome). o.told) w;
-      within = c.issue.ensures.within;
     }
 
 pub returns-in-Jump : goal.returns-in-Jump
@@ -21,5 +20,4 @@ returns-in-Jump g c =
     record {
       progress = c.jump.ensures ∙ ap (λ (o : Outcome). o.progress) w;
       told = ap (λ (o : Outcome). o.told) w;
-      within = omega arith;
     }

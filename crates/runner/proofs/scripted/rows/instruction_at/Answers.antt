@@ -1,25 +1,21 @@
-use Rattle.std.proofs.Common.{false, refl, ◌∙◌}
-use Rattle.std.proofs.lemmas.Bool.{both_ways}
+use Rattle.std.proofs.Common.{◌∙◌}
 use Rattle.book.specs.Reader.{script_place}
 use Rattle.runner.specs.Scripts.{instruction_of}
 use Rattle.runner.proofs.Rows.{small_row, handed_some, handed_none}
 use Rattle.runner.proofs.scripted.rows.instruction_at.Goals as goal
 
-pub returns-in-Some : goal.returns-in-Some
+pub returns-in_err-row-clause-value : goal.returns-in_err-row-clause-value
 unfolding instruction_of
-returns-in-Some c =
+returns-in_err-row-clause-value c =
     let s = c.args.book.bytes in
-    let h = c.in-Some.ensures.handed in
-    record {
-      value = c.decode.ensures ∙ handed_some s (script_place s.now c.args.task c.args.row) c.in-Some.bytes h;
-      bound = λ _. small_row s c.args.task c.args.row c.in-Some.bytes c.args.book.sound h;
-    }
+    c.from_residual.ensures ∙ handed_none s (script_place s.now c.args.task c.args.row) c.in_err-row.ensures.handed
 
-pub returns-in-None : goal.returns-in-None
+pub returns : goal.returns
 unfolding instruction_of
-returns-in-None c =
+returns c =
     let s = c.args.book.bytes in
+    let h = c.in_ok-row.ensures.handed in
     record {
-      value = handed_none s (script_place s.now c.args.task c.args.row) c.in-None.ensures.handed;
-      bound = λ e. absurd (both_ways false refl e);
+      value = c.decode.ensures ∙ handed_some s (script_place s.now c.args.task c.args.row) c.in_ok-row.field-0 h;
+      bound = λ _. small_row s c.args.task c.args.row c.in_ok-row.field-0 c.args.book.sound h;
     }
