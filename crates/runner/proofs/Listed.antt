@@ -2,7 +2,7 @@
 use Rattle.std.proofs.Common.{◌≡◌, ℕ, ◌+◌, Bool, List, [], ◌++◌, Some, None, Option, sym, refl, ap, ◌∙◌, add-one}
 use Rattle.book.specs.declared.faults.Fault.{Fault}
 use Rattle.book.specs.Verdict.{told}
-use Rattle.book.specs.Reader.{steps_in, or_blank, opened}
+use Rattle.book.specs.Reader.{steps_in}
 use Rattle.laws.specs.Histories.{begun}
 use Rattle.runner.specs.Lines.{lines_of_events, line_of_left, line_of_fault}
 use Rattle.runner.specs.Scripts.{Progress, stepped}
@@ -32,11 +32,10 @@ module _ (lever : Bool) (b : List ℕ) where
   unfolding listing
   refused_listing f e = ap (λ (o : Option Fault). listing_by o lever b) e
 
-  -- a book without faults, as it was opened
-  pub clean_listing : (o : List ℕ) → None ≡ told b → o ≡ opened b → run_lines lever o ≡ listing lever b
+  -- a book without faults
+  pub clean_listing : None ≡ told b → run_lines lever b ≡ listing lever b
   unfolding listing
-  clean_listing o e q =
-      ap (run_lines lever) (q ∙ ap (λ (f : Option Fault). or_blank f b) (sym e)) ∙ ap (λ (f : Option Fault). listing_by f lever b) e
+  clean_listing e = ap (λ (o : Option Fault). listing_by o lever b) e
 
   -- the three parts of a run
   module _ {M : Type 0} (took : M → List ℕ → M) (both : (m : M) (x y : List ℕ) → took (took m x) y ≡ took m (x ++ y)) where

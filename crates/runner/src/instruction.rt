@@ -1,10 +1,9 @@
 //! What an instruction row says.
 
-ghost use Rattle.std.specs.Prelude.{◌≡◌, slice_index};
-ghost use Rattle.book.specs.Numbers.{be32};
-ghost use Rattle.runner.specs.Instructions.{meant, decoded};
+ghost use Rattle.std.specs.Prelude.{◌≡◌};
+ghost use Rattle.runner.specs.Instructions.{fields_of, meant, decoded};
 
-use book::Letter;
+use book::{Letter, byte_at, u32_at};
 use rules::Macro;
 
 /// What a task does at a row of its script.
@@ -25,22 +24,18 @@ pub struct Fields {
     cycle: u32,
 }
 
-// The byte at a place of a row; past its end there are only zeros.
-fn byte_at(row: &[u8], place: u16) -> u8
-    ensures { result ≡ slice_index row.now place }
-{
-    let place = place as usize;
-    if place < row.len() { row[place] } else { 0 }
-}
-
-// The 32 bits at a place.
-fn number_at(row: &[u8], place: u8) -> u32
-    ensures { result ≡ be32 row.now place }
-{
-    let place = place as u16;
-    let high = 256 * byte_at(row, place) as u32 + byte_at(row, place + 1) as u32;
-    let low = 256 * byte_at(row, place + 2) as u32 + byte_at(row, place + 3) as u32;
-    65536 * high + low
+impl Fields {
+    // What stands in a row of twelve bytes; past the end of a shorter one there are only zeros.
+    fn read(row: &[u8]) -> Fields
+        ensures { result ≡ fields_of row.now }
+    {
+        Fields {
+            task: byte_at(row, 1),
+            x: byte_at(row, 2),
+            t: u32_at(row, 4),
+            cycle: u32_at(row, 8),
+        }
+    }
 }
 
 impl Instruction {
@@ -81,17 +76,10 @@ impl Instruction {
 }
 
 /// What a row of a script says, or nothing where its letter is none.
+#[tactic(auto, unfolding(crate::specs::Instructions::decoded))]
 pub fn decode(row: &[u8]) -> Option<Instruction>
     ensures { result ≡ decoded row.now }
 {
-    let fields = Fields {
-        task: byte_at(row, 1),
-        x: byte_at(row, 2),
-        t: number_at(row, 4),
-        cycle: number_at(row, 8),
-    };
-    match Letter::from_byte(byte_at(row, 0)) {
-        Some(letter) => Some(Instruction::of(letter, fields)),
-        None => None,
-    }
+    let letter = Letter::try_from(byte_at(row, 0)).ok()?;
+    Some(Instruction::of(letter, Fields::read(row)))
 }

@@ -67,7 +67,7 @@ pub fn fault_line(fault: Fault) -> Line
     let mut digits = Buffer::new();
     let mut text = ArrayString::new();
     text.push_str("book ");
-    text.push_str(digits.format(fault.cause.number()));
+    text.push_str(digits.format(u8::from(fault.cause)));
     text.push_str(" ");
     text.push_str(digits.format(fault.place));
     text.push_str("\n");

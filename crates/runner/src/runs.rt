@@ -31,8 +31,7 @@ fn take_step<R: Roll, S: Sink>(
     ensures lines { OnOk result (sent S.Sink.state S.Sink.took out.new ≡ S.Sink.took (sent S.Sink.state S.Sink.took out.old) (lines_of_events step (stepped book.entry.bytes.now (progress_in R.Roll.meaning R.Roll.lever scripted.old)).told)) }
 {
     out.add_events(step, scripted.do_row(book, sheet))?;
-    out.add_events(step, scripted.do_tick(sheet))?;
-    Ok(())
+    out.add_events(step, scripted.do_tick(sheet))
 }
 
 // All steps of a book, from power-up on.
@@ -79,8 +78,7 @@ fn carry_out<R: Roll + Drop, S: Sink>(
     let outcome = take_steps(&mut scripted, book, out);
     let left = scripted.stop();
     outcome?;
-    out.add(&left_line(left))?;
-    Ok(())
+    out.add(&left_line(left))
 }
 
 // Carries out the book in these bytes, or says why it is refused.
@@ -92,13 +90,10 @@ fn write_listing<R: Roll + Drop, S: Sink>(
     ensures same_reference { out.new.sink.ghost_name ≡ out.old.sink.ghost_name }
     ensures lines { OnOk result (sent S.Sink.state S.Sink.took out.new ≡ S.Sink.took (sent S.Sink.state S.Sink.took out.old) (listing R.Roll.lever bytes.now)) }
 {
-    let reading = Book::read(bytes);
-    if let Some(fault) = reading.fault {
-        out.add(&fault_line(fault))?;
-        return Ok(());
+    match Book::read(bytes) {
+        Ok(book) => carry_out(roll, book, out),
+        Err(fault) => out.add(&fault_line(fault)),
     }
-    carry_out(roll, reading.book, out)?;
-    Ok(())
 }
 
 /// Carries out the book in these bytes over a roll, and puts its listing into the sink. Whatever the bytes are: those
@@ -110,6 +105,5 @@ pub fn run<R: Roll + Drop, S: Sink>(roll: R, bytes: &[u8], sink: &mut S) -> Resu
 {
     let mut out = BufferedSink::new(sink);
     write_listing(roll, bytes, &mut out)?;
-    out.flush()?;
-    Ok(())
+    out.flush()
 }
