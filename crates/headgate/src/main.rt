@@ -3,38 +3,31 @@
 
 #![tactic(auto)]
 
-ghost use Rattle.std.specs.Prelude.{◌≤◌, length, IfOk};
+ghost use Rattle.std.specs.Prelude.{◌≡◌, take, IfOk, IfSome};
 
 mod console;
 
 use console::Console;
 use lever::Lever;
 use packed::Packed;
+use std::alloc::Global;
 use std::io;
 use std::io::Read;
 
 // One byte more than the largest book has.
-const ROOM: usize = 65_536;
+const MOST: u64 = 65_536;
 
-// Reads standard input to its end, or until there is no room left; answers how many bytes there were.
-fn read_book(rt: &HostRuntime, bytes: &mut [u8]) -> io::Result<usize>
-    ensures { IfOk result (λ n. n ≤ length bytes.new) }
+// Reads an input to its end, or as much of it as tells a book from what is too long to be one.
+fn read_book<R: Read + Drop>(input: R, heap: Global) -> io::Result<Vec<u8>>
+    ensures { IfOk result (λ bytes. IfSome (R.Read.remaining input) (λ all. bytes.items ≡ take 65536 all)) }
 {
-    let mut input = rt.stdin();
-    let mut len = 0;
-    while len < bytes.len() {
-        let more = input.read(&mut bytes[len..])?;
-        if more == 0 {
-            break;
-        }
-        len += more;
-    }
-    Ok(len)
+    let mut bytes = Vec::new(heap);
+    input.take(MOST).read_to_end(&mut bytes)?;
+    Ok(bytes)
 }
 
 fn main(rt: HostRuntime) -> io::Result<()> {
-    let mut bytes = [0; ROOM];
-    let len = read_book(&rt, &mut bytes)?;
+    let bytes = read_book(rt.stdin(), rt.alloc())?;
     let mut console = Console { out: rt.stdout() };
-    runner::run(Lever::new(Packed::new()), &bytes[0..len], &mut console)
+    runner::run(Lever::new(Packed::new()), bytes.as_slice(), &mut console)
 }
