@@ -1,10 +1,15 @@
 //! From a line to a call and the length of its sheet.
 
-use crate::text::{Pieces, number};
+use crate::text::number;
 use rules::{Call, LEAST_SHEET, Macro};
+use std::alloc::{AllocError, Global};
+use std::str;
 
 // The longest sheet that can be asked for.
 pub const LONGEST_SHEET: usize = 200;
+
+// One word more than the longest order has: a sheet, a name and four fields.
+const MOST_WORDS: usize = 7;
 
 #[derive(Clone, Copy)]
 pub struct Order {
@@ -13,106 +18,99 @@ pub struct Order {
 }
 
 // The order in a line, or none where the line is no call.
-pub fn read_order(line: &[u8]) -> Option<Order> {
-    let mut words = Pieces::new(line, b' ');
-    let first = words.take()?;
-    let (room, name) = match number(first) {
-        Some(room) => (usize::try_from(room).ok()?, words.take()?),
-        None => (LEAST_SHEET, first),
+pub fn read_order(heap: Global, line: &[u8]) -> Result<Option<Order>, AllocError> {
+    let Ok(line) = str::from_utf8(line) else {
+        return Ok(None);
     };
-    let call = read_call(name, &mut words)?;
-    if room > LONGEST_SHEET || !words.is_done() {
+    let words: Vec<&str> = line.split(' ').take(MOST_WORDS).collect(heap)?;
+    Ok(order_of(words.as_slice()))
+}
+
+fn order_of(words: &[&str]) -> Option<Order> {
+    let (first, others) = words.split_first()?;
+    let (room, call) = match number(first) {
+        Some(room) => (room, others),
+        None => (LEAST_SHEET, words),
+    };
+    if room > LONGEST_SHEET {
         return None;
     }
-    Some(Order { room, call })
+    Some(Order {
+        room,
+        call: call_of(call)?,
+    })
 }
 
-fn small(words: &mut Pieces<'_>) -> Option<u8> {
-    u8::try_from(number(words.take()?)?).ok()
+fn call_of(words: &[&str]) -> Option<Call> {
+    Some(match words {
+        ["tick"] => Call::Tick,
+        ["coil", task] => Call::Coil {
+            task: number(task)?,
+        },
+        _ => Call::Macro(macro_of(words)?),
+    })
 }
 
-fn large(words: &mut Pieces<'_>) -> Option<u32> {
-    u32::try_from(number(words.take()?)?).ok()
+fn macro_of(words: &[&str]) -> Option<Macro> {
+    Some(match words {
+        ["gfact"] => Macro::Gfact,
+        ["exit"] => Macro::Exit,
+        ["delay", t] => Macro::Delay { t: number(t)? },
+        ["stime", second] => Macro::Stime {
+            second: number(second)?,
+        },
+        ["rleas", task] => Macro::Rleas {
+            task: number(task)?,
+        },
+        ["abort", task] => Macro::Abort {
+            task: number(task)?,
+        },
+        ["susp", task] => Macro::Susp {
+            task: number(task)?,
+        },
+        ["rsum", task] => Macro::Rsum {
+            task: number(task)?,
+        },
+        [name, task, fields @ ..] => longer_macro(name, number(task)?, fields)?,
+        _ => return None,
+    })
 }
 
-fn read_call(name: &[u8], words: &mut Pieces<'_>) -> Option<Call> {
-    match name {
-        b"tick" => Some(Call::Tick),
-        b"coil" => Some(Call::Coil {
-            task: small(words)?,
-        }),
-        _ => Some(Call::Macro(read_macro(name, words)?)),
-    }
-}
-
-fn read_macro(name: &[u8], words: &mut Pieces<'_>) -> Option<Macro> {
-    match name {
-        b"rleas" => Some(Macro::Rleas {
-            task: small(words)?,
-        }),
-        b"abort" => Some(Macro::Abort {
-            task: small(words)?,
-        }),
-        b"susp" => Some(Macro::Susp {
-            task: small(words)?,
-        }),
-        b"rsum" => Some(Macro::Rsum {
-            task: small(words)?,
-        }),
-        b"delay" => Some(Macro::Delay { t: large(words)? }),
-        b"stime" => Some(Macro::Stime {
-            second: large(words)?,
-        }),
-        b"gfact" => Some(Macro::Gfact),
-        b"exit" => Some(Macro::Exit),
-        _ => read_longer(name, words),
-    }
-}
-
-// The macros of two and of four fields.
-fn read_longer(name: &[u8], words: &mut Pieces<'_>) -> Option<Macro> {
-    let task = small(words)?;
-    match name {
-        b"queue" => Some(Macro::Queue {
+// The macros that have more fields behind the task.
+fn longer_macro(name: &str, task: u8, fields: &[&str]) -> Option<Macro> {
+    Some(match (name, fields) {
+        ("queue", [factor]) => Macro::Queue {
             task,
-            factor: small(words)?,
-        }),
-        b"ctime" => Some(Macro::Ctime {
+            factor: number(factor)?,
+        },
+        ("ctime", [factor]) => Macro::Ctime {
             task,
-            factor: small(words)?,
-        }),
-        b"chap" => Some(Macro::Chap {
+            factor: number(factor)?,
+        },
+        ("chap", [level]) => Macro::Chap {
             task,
-            level: small(words)?,
-        }),
-        b"sfact" => Some(Macro::Sfact {
+            level: number(level)?,
+        },
+        ("sfact", [factor]) => Macro::Sfact {
             task,
-            factor: small(words)?,
-        }),
-        b"cwake" => Some(Macro::Cwake {
+            factor: number(factor)?,
+        },
+        ("cwake", [factor]) => Macro::Cwake {
             task,
-            factor: small(words)?,
-        }),
-        b"timer" => {
-            let t = large(words)?;
-            let cycle = large(words)?;
-            Some(Macro::Timer {
-                task,
-                t,
-                cycle,
-                factor: small(words)?,
-            })
-        }
-        b"wake" => {
-            let factor = small(words)?;
-            let second = large(words)?;
-            Some(Macro::Wake {
-                task,
-                factor,
-                second,
-                cycle: large(words)?,
-            })
-        }
-        _ => None,
-    }
+            factor: number(factor)?,
+        },
+        ("timer", [t, cycle, factor]) => Macro::Timer {
+            task,
+            t: number(t)?,
+            cycle: number(cycle)?,
+            factor: number(factor)?,
+        },
+        ("wake", [factor, second, cycle]) => Macro::Wake {
+            task,
+            factor: number(factor)?,
+            second: number(second)?,
+            cycle: number(cycle)?,
+        },
+        _ => return None,
+    })
 }

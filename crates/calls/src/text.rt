@@ -1,61 +1,30 @@
-//! Lines, words and numbers of the input.
+//! Numbers and hexadecimal digits of the input.
 
-// What is left of a text that is taken piece by piece, each up to the next separator.
-#[derive(Drop)]
-pub struct Pieces<'a> {
-    rest: Option<&'a [u8]>,
-    separator: u8,
-}
+use hex::FromHexError;
+use std::alloc::{AllocError, Global};
+use std::str::FromStr;
 
-impl<'a> Pieces<'a> {
-    pub fn new(text: &'a [u8], separator: u8) -> Pieces<'a> {
-        Pieces {
-            rest: Some(text),
-            separator,
+// The bytes that pairs of hexadecimal digits name, with spaces between the pairs as one likes; none where the line is
+// no such text.
+pub fn read_hex(heap: Global, line: &[u8]) -> Result<Option<Vec<u8>>, AllocError> {
+    let mut bytes = Vec::new(heap);
+    for pairs in line.split(|b| *b == b' ') {
+        match hex::decode(heap, pairs) {
+            Ok(more) => bytes.extend_from_slice(more.as_slice())?,
+            Err(FromHexError::OutOfMemory) => return Err(AllocError),
+            Err(_) => return Ok(None),
         }
     }
-
-    // The next piece, if there is one; an empty text has one, which is empty.
-    pub fn take(&mut self) -> Option<&'a [u8]> {
-        let rest = self.rest?;
-        for (i, b) in rest.iter().enumerate() {
-            if *b == self.separator {
-                self.rest = Some(&rest[i + 1..]);
-                return Some(&rest[0..i]);
-            }
-        }
-        self.rest = None;
-        Some(rest)
-    }
-
-    pub fn is_done(&self) -> bool {
-        self.rest.is_none()
-    }
+    Ok(Some(bytes))
 }
 
-// A decimal number of one to ten digits.
-pub fn number(word: &[u8]) -> Option<u64> {
-    if word.is_empty() || word.len() > 10 {
+// A decimal number of one to ten digits, without a sign.
+pub fn number<T: FromStr>(word: &str) -> Option<T>
+where
+    T::Err: Drop,
+{
+    if word.len() > 10 || !word.bytes().all(|b| b.is_ascii_digit()) {
         return None;
     }
-    let mut value: u64 = 0;
-    for b in word {
-        if !b.is_ascii_digit() {
-            return None;
-        }
-        value = value
-            .wrapping_mul(10)
-            .wrapping_add(u64::from(*b).wrapping_sub(48));
-    }
-    Some(value)
-}
-
-// The value of a hexadecimal digit.
-pub fn hex_digit(b: u8) -> Option<u8> {
-    match b {
-        b'0'..=b'9' => Some(b - b'0'),
-        b'a'..=b'f' => Some(b - b'a' + 10),
-        b'A'..=b'F' => Some(b - b'A' + 10),
-        _ => None,
-    }
+    word.parse().ok()
 }
