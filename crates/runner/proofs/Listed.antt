@@ -6,8 +6,10 @@ use Rattle.book.specs.Reader.{steps_in}
 use Rattle.laws.specs.Histories.{begun}
 use Rattle.runner.specs.Lines.{lines_of_events, line_of_left, line_of_fault}
 use Rattle.runner.specs.Scripts.{Progress, stepped}
+use Rattle.runner.specs.declared.buffer.BufferedSink.{BufferedSink}
+use Rattle.runner.specs.Sinks.{Took}
 use Rattle.runner.specs.Listing.{powered_up, progress_after, step_lines, left_on, run_lines, listing_by, listing}
-use Rattle.runner.proofs.Sent.{took_two}
+use Rattle.runner.proofs.Sent.{took_as, took_two}
 
 module _ (lever : Bool) (b : List ℕ) where
   pub after_none : progress_after lever b 0 ≡ powered_up lever b
@@ -38,11 +40,9 @@ module _ (lever : Bool) (b : List ℕ) where
   clean_listing e = ap (λ (o : Option Fault). listing_by o lever b) e
 
   -- the three parts of a run
-  module _ {M : Type 0} (took : M → List ℕ → M) (both : (m : M) (x y : List ℕ) → took (took m x) y ≡ took m (x ++ y)) where
-    pub whole_run : (m m₁ m₂ m₃ : M) (left : ℕ) (p : Progress) (line : List ℕ) → m₁ ≡ took m (lines_of_events 0 begun) → m₂ ≡ took m₁ (step_lines lever b (steps_in b))
-        → left ≡ left_on p → p ≡ progress_after lever b (steps_in b) → line ≡ line_of_left left → m₃ ≡ took m₂ line → m₃ ≡ took m (run_lines lever b)
+  module _ {M S : Type 0} {state : S → M} {took : M → List ℕ → M} (both : (m : M) (x y : List ℕ) → took (took m x) y ≡ took m (x ++ y)) where
+    pub whole_run : {o₁ o₂ o₃ o₄ : BufferedSink S} (left : ℕ) (p : Progress) (line : List ℕ) → left ≡ left_on p → p ≡ progress_after lever b (steps_in b) → line ≡ line_of_left left
+        → Took state took o₁ (lines_of_events 0 begun) o₂ → Took state took o₂ (step_lines lever b (steps_in b)) o₃ → Took state took o₃ line o₄ → Took state took o₁ (run_lines lever b) o₄
     unfolding run_lines
-    whole_run m m₁ m₂ m₃ left p line e₁ e₂ l q w e₃ =
-        let rest = line_of_left (left_on (progress_after lever b (steps_in b))) in
-        let last = e₃ ∙ ap (took m₂) (w ∙ ap line_of_left (l ∙ ap left_on q)) in
-        took_two took both m m₁ m₃ (lines_of_events 0 begun) (step_lines lever b (steps_in b) ++ rest) e₁ (took_two took both m₁ m₂ m₃ (step_lines lever b (steps_in b)) rest e₂ last)
+    whole_run left p line l q w t₁ t₂ t₃ =
+        took_two both t₁ (took_two both t₂ (took_as (w ∙ ap line_of_left (l ∙ ap left_on q)) t₃))

@@ -2,7 +2,7 @@
 
 ghost use Rattle.std.specs.Prelude.{◌≡◌, [], OnOk};
 ghost use Rattle.runner.specs.Lines.{bytes_of, lines_of_events};
-ghost use Rattle.runner.specs.Sinks.{sent};
+ghost use Rattle.runner.specs.Sinks.{sent, Took};
 
 use crate::line::{Line, event_line};
 use crate::sink::Sink;
@@ -40,8 +40,7 @@ impl<'s, S: Sink> BufferedSink<'s, S> {
 
     // Adds a line; what waits is handed on first if there is no room for it.
     pub(crate) fn add(&mut self, line: &Line) -> Result<(), S::Error>
-        ensures same_reference { self.new.sink.ghost_name ≡ self.old.sink.ghost_name }
-        ensures sent { OnOk result (sent S.Sink.state S.Sink.took self.new ≡ S.Sink.took (sent S.Sink.state S.Sink.took self.old) (bytes_of line.now)) }
+        ensures { OnOk result (Took S.Sink.state S.Sink.took self.old (bytes_of line.now) self.new) }
     {
         if self.waiting.remaining_capacity() < 64 {
             self.flush()?;
@@ -52,8 +51,7 @@ impl<'s, S: Sink> BufferedSink<'s, S> {
 
     // Adds a line for each event of a step.
     pub(crate) fn add_events(&mut self, step: u32, events: &[Event]) -> Result<(), S::Error>
-        ensures same_reference { self.new.sink.ghost_name ≡ self.old.sink.ghost_name }
-        ensures sent { OnOk result (sent S.Sink.state S.Sink.took self.new ≡ S.Sink.took (sent S.Sink.state S.Sink.took self.old) (lines_of_events step events.now)) }
+        ensures { OnOk result (Took S.Sink.state S.Sink.took self.old (lines_of_events step events.now) self.new) }
     {
         for event in events {
             self.add(&event_line(step, *event))?;

@@ -7,7 +7,7 @@ ghost use Rattle.runner.specs.Scripts.{stepped};
 ghost use Rattle.runner.specs.Lives.{Lives};
 ghost use Rattle.runner.specs.Listing.{powered_up, progress_after, step_lines, run_lines, listing};
 ghost use Rattle.runner.specs.Views.{progress_in};
-ghost use Rattle.runner.specs.Sinks.{sent};
+ghost use Rattle.runner.specs.Sinks.{Took};
 
 use crate::buffer::BufferedSink;
 use crate::line::{fault_line, left_line};
@@ -26,9 +26,8 @@ fn take_step<R: Roll, S: Sink>(
     sheet: &mut [Event; LEAST_SHEET],
     out: &mut BufferedSink<'_, S>,
 ) -> Result<(), S::Error>
-    ensures same_reference { out.new.sink.ghost_name ≡ out.old.sink.ghost_name }
     ensures progress { OnOk result (progress_in R.Roll.meaning R.Roll.lever scripted.new ≡ (stepped book.entry.bytes.now (progress_in R.Roll.meaning R.Roll.lever scripted.old)).progress) }
-    ensures lines { OnOk result (sent S.Sink.state S.Sink.took out.new ≡ S.Sink.took (sent S.Sink.state S.Sink.took out.old) (lines_of_events step (stepped book.entry.bytes.now (progress_in R.Roll.meaning R.Roll.lever scripted.old)).told)) }
+    ensures lines { OnOk result (Took S.Sink.state S.Sink.took out.old (lines_of_events step (stepped book.entry.bytes.now (progress_in R.Roll.meaning R.Roll.lever scripted.old)).told) out.new) }
 {
     out.add_events(step, scripted.do_row(book, sheet))?;
     out.add_events(step, scripted.do_tick(sheet))
@@ -41,9 +40,8 @@ fn take_steps<R: Roll, S: Sink>(
     out: &mut BufferedSink<'_, S>,
 ) -> Result<(), S::Error>
     requires { progress_in R.Roll.meaning R.Roll.lever scripted.old ≡ powered_up R.Roll.lever book.bytes.now }
-    ensures same_reference { out.new.sink.ghost_name ≡ out.old.sink.ghost_name }
     ensures progress { OnOk result (progress_in R.Roll.meaning R.Roll.lever scripted.new ≡ progress_after R.Roll.lever book.entry.bytes.now (steps_in book.entry.bytes.now)) }
-    ensures lines { OnOk result (sent S.Sink.state S.Sink.took out.new ≡ S.Sink.took (sent S.Sink.state S.Sink.took out.old) (step_lines R.Roll.lever book.entry.bytes.now (steps_in book.entry.bytes.now))) }
+    ensures lines { OnOk result (Took S.Sink.state S.Sink.took out.old (step_lines R.Roll.lever book.entry.bytes.now (steps_in book.entry.bytes.now)) out.new) }
 {
     let blank = Event {
         kind: Kind::Runs,
@@ -62,8 +60,7 @@ fn carry_out<R: Roll + Drop, S: Sink>(
     book: Book<'_>,
     out: &mut BufferedSink<'_, S>,
 ) -> Result<(), S::Error>
-    ensures same_reference { out.new.sink.ghost_name ≡ out.old.sink.ghost_name }
-    ensures lines { OnOk result (sent S.Sink.state S.Sink.took out.new ≡ S.Sink.took (sent S.Sink.state S.Sink.took out.old) (run_lines R.Roll.lever book.entry.bytes.now)) }
+    ensures { OnOk result (Took S.Sink.state S.Sink.took out.old (run_lines R.Roll.lever book.entry.bytes.now) out.new) }
 {
     let accepted = Event {
         kind: Kind::Accepted,
@@ -87,8 +84,7 @@ fn write_listing<R: Roll + Drop, S: Sink>(
     bytes: &[u8],
     out: &mut BufferedSink<'_, S>,
 ) -> Result<(), S::Error>
-    ensures same_reference { out.new.sink.ghost_name ≡ out.old.sink.ghost_name }
-    ensures lines { OnOk result (sent S.Sink.state S.Sink.took out.new ≡ S.Sink.took (sent S.Sink.state S.Sink.took out.old) (listing R.Roll.lever bytes.now)) }
+    ensures { OnOk result (Took S.Sink.state S.Sink.took out.old (listing R.Roll.lever bytes.now) out.new) }
 {
     match Book::read(bytes) {
         Ok(book) => carry_out(roll, book, out),

@@ -1,12 +1,11 @@
 use Rattle.std.proofs.Common.{◌≡◌}
 use Rattle.runner.specs.Listing.{progress_after, step_lines}
 use Rattle.runner.specs.Views.{progress_in}
-use Rattle.runner.specs.Sinks.{sent}
+use Rattle.runner.specs.Sinks.{Took}
 use Rattle.runner.proofs.runs.take_steps.Given as goal
 
 abbrev pub invariant-loop-done : goal.invariant-loop-done
 invariant-loop-done g l = record {
-  same_reference : l.out.sink.ghost_name ≡ l.initial.out.sink.ghost_name;
   progress : progress_in g.R.Roll.meaning g.R.Roll.lever l.scripted ≡ progress_after g.R.Roll.lever l.book.bytes.now l.done;
-  lines : sent g.S.Sink.state g.S.Sink.took l.out ≡ g.S.Sink.took (sent g.S.Sink.state g.S.Sink.took l.initial.out) (step_lines g.R.Roll.lever l.book.bytes.now l.done);
+  lines : Took g.S.Sink.state g.S.Sink.took l.initial.out (step_lines g.R.Roll.lever l.book.bytes.now l.done) l.out;
 }
