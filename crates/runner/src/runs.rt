@@ -95,6 +95,7 @@ fn write_listing<R: Roll + Drop, S: Sink>(
 /// Carries out the book in these bytes over a roll, and puts its listing into the sink. Whatever the bytes are: those
 /// that are no book give the one line that says so. The memory used does not grow with the steps or the lines. What the
 /// lines of a book tell is a history of calls from power-up on, of which the laws hold after every step.
+#[tactic(auto, using(crate::proofs::Lasting::lived))]
 pub fn run<R: Roll + Drop, S: Sink>(roll: R, bytes: &[u8], sink: &mut S) -> Result<(), S::Error>
     ensures lives { Lives R.Roll.lever bytes.now }
     ensures listing { OnOk result (S.Sink.state sink.new ≡ S.Sink.took (S.Sink.state sink.old) (listing R.Roll.lever bytes.now)) }

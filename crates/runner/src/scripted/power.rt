@@ -12,6 +12,7 @@ use station::Cold;
 
 impl<R: Roll> ScriptedStation<R> {
     // Powers a station up with a book.
+    #[tactic(auto, unfolding(crate::specs::Listing::powered_up, crate::specs::Views::station_in))]
     pub(crate) fn power_up(roll: R, book: Book<'_>) -> ScriptedStation<R>
         ensures { progress_in R.Roll.meaning R.Roll.lever result ≡ powered_up R.Roll.lever book.entry.bytes.now }
     {
@@ -22,6 +23,7 @@ impl<R: Roll> ScriptedStation<R> {
     }
 
     // Stops the station; answers how many starts stood on the roll.
+    #[tactic(auto, unfolding(crate::specs::Listing::left_on, crate::specs::Views::station_in))]
     pub(crate) fn stop(self) -> u8
     where
         R: Drop,

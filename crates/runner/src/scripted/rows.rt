@@ -93,6 +93,7 @@ impl<R: Roll> ScriptedStation<R> {
     }
 
     // One millisecond passes.
+    #[tactic(auto, unfolding(crate::specs::Scripts::tick_done))]
     pub(crate) fn do_tick<'s>(&mut self, sheet: &'s mut [Event; LEAST_SHEET]) -> &'s [Event]
         ensures progress { progress_in R.Roll.meaning R.Roll.lever self.new ≡ (tick_done (progress_in R.Roll.meaning R.Roll.lever self.old)).progress }
         ensures told { result.now ≡ (tick_done (progress_in R.Roll.meaning R.Roll.lever self.old)).told }
