@@ -50,6 +50,7 @@ impl<'s, S: Sink> BufferedSink<'s, S> {
     }
 
     // Adds a line for each event of a step.
+    #[tactic(auto, using(crate::proofs::Sent::events_more, crate::proofs::Sent::events_all))]
     pub(crate) fn add_events(&mut self, step: u32, events: &[Event]) -> Result<(), S::Error>
         ensures { OnOk result (Took S.Sink.state S.Sink.took self.old (lines_of_events step events.now) self.new) }
     {

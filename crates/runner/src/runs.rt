@@ -19,6 +19,7 @@ use rules::LEAST_SHEET;
 use sheet::{Event, Kind};
 
 // One step: the task with the processor, if any, does a row or exits, and then a millisecond passes.
+#[tactic(auto, using(crate::proofs::Sent::events_both), unfolding(crate::specs::Scripts::stepped))]
 fn take_step<R: Roll, S: Sink>(
     scripted: &mut ScriptedStation<R>,
     book: Book<'_>,
@@ -34,6 +35,7 @@ fn take_step<R: Roll, S: Sink>(
 }
 
 // All steps of a book, from power-up on.
+#[tactic(auto, using(crate::proofs::Listed::after_none, crate::proofs::Listed::after_more, crate::proofs::Listed::lines_none, crate::proofs::Listed::lines_after))]
 fn take_steps<R: Roll, S: Sink>(
     scripted: &mut ScriptedStation<R>,
     book: Book<'_>,
@@ -79,6 +81,7 @@ fn carry_out<R: Roll + Drop, S: Sink>(
 }
 
 // Carries out the book in these bytes, or says why it is refused.
+#[tactic(auto, unfolding(crate::specs::Listing::listing))]
 fn write_listing<R: Roll + Drop, S: Sink>(
     roll: R,
     bytes: &[u8],

@@ -71,6 +71,7 @@ impl Positions {
     }
 
     // With each ended or cut event its task goes back to the beginning, whoever caused it.
+    #[tactic(auto, using(crate::proofs::Moves::back_all))]
     pub(crate) fn set_back(&mut self, events: &[Event])
         ensures { positions_in self.new ≡ set_back_by (positions_in self.old) events.now }
     {

@@ -13,6 +13,7 @@ use rules::{Call, LEAST_SHEET, Macro};
 use sheet::Event;
 
 // The instruction in a row of a task's script, if there is one.
+#[tactic(auto, using(crate::proofs::Rows::small_row, crate::proofs::Rows::handed_some, crate::proofs::Rows::handed_none), unfolding(crate::specs::Scripts::instruction_of))]
 fn instruction_at(book: Book<'_>, task: u8, row: usize) -> Option<Instruction>
     ensures value { result ≡ instruction_of book.entry.bytes.now task row }
     ensures bound { is_some result ≡ true → row < 2 ^ 32 }
@@ -75,6 +76,7 @@ impl<R: Roll> ScriptedStation<R> {
     }
 
     // The task with the processor, if any, does the row that it stands at, or exits where its script is at its end.
+    #[tactic(auto, using(crate::proofs::Rows::same_progress, crate::proofs::Rows::row_idle))]
     pub(crate) fn do_row<'s>(
         &mut self,
         book: Book<'_>,

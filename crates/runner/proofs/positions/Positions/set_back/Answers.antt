@@ -1,8 +1,8 @@
-use Rattle.std.proofs.Common.{◌<◌, ◌≤◌, length, get_or, sym, ap, ◌∙◌, arith}
+use Rattle.std.proofs.Common.{◌<◌, length, get_or, ap, ◌∙◌, arith}
 use Rattle.sheet.specs.declared.event.Kind.TheVariants.{Accepted}
 use Rattle.sheet.specs.Events.{event}
 use Rattle.runner.specs.Views.{positions_in}
-use Rattle.runner.proofs.Moves.{at_beginning, back_then, back_else, back_more, back_all}
+use Rattle.runner.proofs.Moves.{at_beginning, back_then, back_else, back_more}
 use Rattle.runner.proofs.positions.Positions.set_back.Goals as goal
 use Rattle.runner.proofs.positions.Positions.set_back.Goals.{then-finishes, else-finishes}
 
@@ -19,8 +19,3 @@ loop-event-preserved c =
       | else-finishes w ↦ ap positions_in w.self-is ∙ back_else ps e w.if-finishes.ensures
     ])
     ∙ c.loop-event.invariant
-
-pub returns : goal.returns
-returns c =
-    let h : length c.args.events.now ≤ c.loop-event.event-index = omega arith in
-    sym (back_all (positions_in c.loop-event.self) c.args.events.now c.loop-event.event-index h) ∙ c.loop-event.invariant

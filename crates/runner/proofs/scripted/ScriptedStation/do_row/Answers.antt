@@ -2,15 +2,8 @@ use Rattle.std.proofs.Common.{Some, None, refl, ap, ◌∙◌}
 use Rattle.runner.specs.declared.positions.Position.{Position}
 use Rattle.runner.specs.Scripts.{Progress, Outcome, instruction_of}
 use Rattle.runner.specs.Views.{station_in, progress_in}
-use Rattle.runner.proofs.Rows.{same_progress, row_idle, row_does}
+use Rattle.runner.proofs.Rows.{same_progress, row_does}
 use Rattle.runner.proofs.scripted.ScriptedStation.do_row.Goals as goal
-
-pub returns-in_default : goal.returns-in_default
-returns-in_default g c =
-    let p = progress_in g.R.Roll.meaning g.R.Roll.lever c.args.self.now in
-    let q : Progress = record { station = station_in g.R.Roll.meaning g.R.Roll.lever c.first.new.station; positions = p.positions } in
-    let w = row_idle c.args.book.bytes.now p q c.in_default.ensures.answer (same_progress c.first.ensures.same refl) in
-    record { progress = ap (λ (o : Outcome). o.progress) w; told = ap (λ (o : Outcome). o.told) w }
 
 pub returns-in-Some-instruction_at : goal.returns-in-Some-instruction_at
 returns-in-Some-instruction_at g c =
