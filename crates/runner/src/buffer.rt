@@ -42,10 +42,11 @@ impl<'s, S: Sink> BufferedSink<'s, S> {
     pub(crate) fn add(&mut self, line: &Line) -> Result<(), S::Error>
         ensures { OnOk result (Took S.Sink.state S.Sink.took self.old (bytes_of line.now) self.new) }
     {
-        if self.waiting.remaining_capacity() < 64 {
+        let text = line.as_str();
+        if self.waiting.remaining_capacity() < text.len() {
             self.flush()?;
         }
-        self.waiting.push_str(line.as_str());
+        self.waiting.push_str(text);
         Ok(())
     }
 

@@ -8,7 +8,8 @@ use book::Fault;
 use itoa::Buffer;
 use sheet::Event;
 
-/// A line of a listing, with the line feed that ends it.
+/// A line of a listing, with the line feed that ends it. Its pieces are put by `push_str` and not by `write!`, since a
+/// line can always be made, and no clause says that a write goes well.
 #[derive(Drop)]
 pub struct Line {
     text: ArrayString<64>,

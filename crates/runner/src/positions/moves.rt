@@ -9,6 +9,8 @@ use super::{Position, Positions};
 use rules::Macro;
 use sheet::{Event, Kind};
 
+// A row number is small where an instruction stands in that row, and only there: so this is asked, and no fact of every
+// position.
 impl Position {
     // The next row, after a macro; what gfact answers goes into the register.
     pub(crate) fn passed(self, m: Macro, answer: u8) -> Position
