@@ -4,7 +4,7 @@
 use lever::Lever;
 use packed::Packed;
 use runner::{Recorder, run};
-use std::alloc::{AllocError, AllocGlobal, Global};
+use std::alloc::Global;
 use std::process::Abort;
 use std::test::Fail;
 
@@ -13,37 +13,25 @@ mod letters;
 mod scripts;
 
 /// The bytes that the digits name; what is no digit is passed over.
-fn hex(heap: Global, text: &[u8]) -> Result<Vec<u8>, AllocError> {
-    let mut bytes = Vec::new(heap);
-    let mut high: Option<u8> = None;
-    for c in text {
-        let digit = match *c {
-            b'0'..=b'9' => *c - b'0',
-            b'A'..=b'F' => *c - b'A' + 10,
-            _ => continue,
-        };
-        match high {
-            None => high = Some(digit),
-            Some(first) => {
-                bytes.push((first << 4) | digit)?;
-                high = None;
-            }
-        }
-    }
-    Ok(bytes)
+fn bytes_of(heap: Global, text: &str) -> Result<Vec<u8>, Fail> {
+    let digits: String = text
+        .chars()
+        .filter(|c| c.is_ascii_hexdigit())
+        .collect(heap)?;
+    Ok(hex::decode(heap, digits.as_str())?)
 }
 
 /// The listing of these bytes is these lines.
-fn shows(rt: &(impl Abort + AllocGlobal), bytes: &[u8], lines: &[u8]) -> Result<(), Fail> {
+fn shows(rt: &(impl Abort + AllocGlobal), bytes: &[u8], lines: &str) -> Result<(), Fail> {
     let mut recorder = Recorder {
         bytes: Vec::new(rt.alloc()),
     };
     run(Lever::new(Packed::new()), bytes, &mut recorder)?;
-    assert!(rt; recorder.bytes.as_slice() == lines);
+    assert!(rt; recorder.bytes.as_slice() == lines.as_bytes());
     Ok(())
 }
 
 /// The same of the bytes that the digits name.
-fn lists(rt: &(impl Abort + AllocGlobal), digits: &[u8], lines: &[u8]) -> Result<(), Fail> {
-    shows(rt, hex(rt.alloc(), digits)?.as_slice(), lines)
+fn lists(rt: &(impl Abort + AllocGlobal), digits: &str, lines: &str) -> Result<(), Fail> {
+    shows(rt, bytes_of(rt.alloc(), digits)?.as_slice(), lines)
 }
