@@ -31,7 +31,7 @@ pub enum Letter {
 #[derive(Clone, Copy, Debug, PartialEq, Eq)]
 pub struct UnknownLetter(pub u8);
 
-/// The byte that stands for the letter in a book.
+/// The byte that stands for the letter in a book. A match, since no discriminant can be written as a byte.
 impl From<Letter> for u8 {
     ghost from_gives = { λ letter byte. (byte ≡ byte_of letter) × (letter_of byte ≡ Some letter) };
 

@@ -1,6 +1,7 @@
 //! Numbers in bytes, big-endian. A byte past the end reads as 0.
 //!
-//! The place of a number has 32 bits, so that the bytes behind it have places too.
+//! The place of a number has 32 bits, so that the bytes behind it have places too. The two widths stand apart: each is
+//! one call of the library, and one function for both would need a trait with that call.
 
 ghost use Rattle.std.specs.Prelude.{◌≡◌, slice_index};
 ghost use Rattle.book.specs.Numbers.{be16, be32};
