@@ -4,8 +4,9 @@ ghost use Rattle.std.specs.Prelude.{◌≡◌};
 ghost use Rattle.rules.specs.declared.answer.Code.TheVariants.{Done};
 ghost use Rattle.rules.specs.Codes.{number_of};
 
-// That a call was obeyed, or the cause for which it was turned down. Several causes share a number.
-#[derive(Clone, Copy)]
+// That a call was obeyed, or the cause for which it was turned down. `Done` stands beside the causes, since outside all
+// of them are known by number, and Done is 0. Several causes share a number.
+#[derive(Clone, Copy, PartialEq, Eq, Debug)]
 pub enum Code {
     Done,
     // The sheet has fewer records than a call may tell.
@@ -36,11 +37,12 @@ pub enum Code {
     NothingSet,
 }
 
-impl Code {
-    pub fn number(self) -> u8
-        ensures { result ≡ number_of self }
-    {
-        match self {
+// The number by which a code is known outside.
+impl From<Code> for u8 {
+    ghost from_gives = { λ k n. n ≡ number_of k };
+
+    fn from(code: Code) -> u8 {
+        match code {
             Code::Done => 0,
             Code::ShortSheet => 10,
             Code::Idle => 11,
@@ -50,17 +52,25 @@ impl Code {
             Code::NoLever => 5,
             Code::Dormant => 2,
             Code::HoldStands => 3,
-            Code::TwoStarts => 1,
-            Code::TableFull => 1,
-            Code::IsReleased => 1,
-            Code::FactorSet => 1,
-            Code::NothingSet => 1,
+            Code::TwoStarts
+            | Code::TableFull
+            | Code::IsReleased
+            | Code::FactorSet
+            | Code::NothingSet => 1,
         }
     }
 }
 
+impl Code {
+    pub fn number(self) -> u8
+        ensures { result ≡ number_of self }
+    {
+        u8::from(self)
+    }
+}
+
 // A code, how many events were told, and beside them the factor that gfact took.
-#[derive(Clone, Copy)]
+#[derive(Clone, Copy, PartialEq, Eq, Debug)]
 pub struct Answer {
     pub code: Code,
     pub told: usize,
@@ -84,6 +94,15 @@ impl Answer {
         ensures { result ≡ record { code = Done; told = 0; factor = 0 } }
     {
         Answer::silent(Code::Done)
+    }
+}
+
+// A call that is turned down for a cause alone tells nothing.
+impl From<Code> for Answer {
+    ghost from_gives = { λ k a. a ≡ record { code = k; told = 0; factor = 0 } };
+
+    fn from(code: Code) -> Answer {
+        Answer::silent(code)
     }
 }
 

@@ -1,7 +1,7 @@
 //! What can be asked of a station.
 
 // What a task asks for while it has the processor.
-#[derive(Clone, Copy)]
+#[derive(Clone, Copy, PartialEq, Eq, Debug)]
 pub enum Macro {
     // A dormant task is released: it takes starts from now on.
     Rleas {
@@ -73,7 +73,7 @@ pub enum Macro {
 }
 
 // Every call of a live station. The last two are the host's.
-#[derive(Clone, Copy)]
+#[derive(Clone, Copy, PartialEq, Eq, Debug)]
 pub enum Call {
     Macro(Macro),
     // One millisecond passes.

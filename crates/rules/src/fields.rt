@@ -9,7 +9,7 @@ use crate::call::Macro;
 pub fn is_task_field(task: u8) -> bool
     ensures { result ≡ task_field task }
 {
-    1 <= task && task <= 128
+    (1..=128).contains(&task)
 }
 
 fn is_factor(factor: u8) -> bool
@@ -21,7 +21,7 @@ fn is_factor(factor: u8) -> bool
 fn is_wait(t: u32) -> bool
     ensures { result ≡ wait_field t }
 {
-    1 <= t && t <= 86_400_000
+    (1..=86_400_000).contains(&t)
 }
 
 impl Macro {
