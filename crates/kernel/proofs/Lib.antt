@@ -2,5 +2,4 @@ pub mod Agreed
 pub mod Same
 pub mod Beaten
 pub mod Settled
-pub mod Issues
 pub mod Numbers

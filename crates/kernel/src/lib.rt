@@ -2,6 +2,7 @@
 
 #![tactic(auto)]
 
+mod effect;
 mod kernel;
 mod setup;
 

@@ -1,133 +1,77 @@
 //! The macros that change a task beside its starts, once their common checks are passed.
 
-ghost use Rattle.std.specs.Prelude.{◌≡◌, ◌≤◌, length};
+ghost use Rattle.std.specs.Prelude.{◌≡◌, ◌≤◌, [], if◌then◌else◌, Ok};
 ghost use Rattle.rules.specs.declared.call.Macro.TheVariants.{Rleas as RleasOf, Chap as ChapOf, Sfact as SfactOf, Gfact as GfactOf, Susp as SuspOf, Rsum as RsumOf};
-ghost use Rattle.rules.specs.State.{running};
 ghost use Rattle.kernel.specs.Views.{seen};
-ghost use Rattle.kernel.specs.Obeys.{Obeys};
+ghost use Rattle.kernel.specs.Obeys.{Obeys, Changes};
 
+use crate::effect::{Effect, check};
 use crate::kernel::Kernel;
 use roll::Roll;
 use rules::{Answer, Code};
-use sheet::Event;
 
 impl<R: Roll> Kernel<R> {
     // A dormant task is released.
-    pub(crate) fn obey_rleas(&mut self, task: u8, issuer: u8, sheet: &mut [Event]) -> Answer
-        ensures { Obeys (seen R.Roll.meaning R.Roll.lever self.old) issuer (RleasOf task) sheet.old (seen R.Roll.meaning R.Roll.lever self.new) result sheet.new }
+    pub(crate) fn obey_rleas(&mut self, task: u8) -> Result<Effect, Answer>
+        ensures { Changes (seen R.Roll.meaning R.Roll.lever self.old) (RleasOf task) (seen R.Roll.meaning R.Roll.lever self.new) result }
     {
-        if !self.setup.is_registered(task) {
-            return Answer::silent(Code::NotRegistered);
-        }
-        if self.tasks.is_released(task) {
-            return Answer::silent(Code::IsReleased);
-        }
+        check(!self.setup.is_registered(task), Code::NotRegistered)?;
+        check(self.tasks.is_released(task), Code::IsReleased)?;
         self.tasks.release(task);
-        Answer::done()
+        Ok(Effect::quiet())
     }
 
     // The present level of a task changes.
-    pub(crate) fn obey_chap(
-        &mut self,
-        task: u8,
-        level: u8,
-        issuer: u8,
-        sheet: &mut [Event],
-    ) -> Answer
-        requires level { level ≤ 4 }
-        requires room { 100 ≤ length sheet.old }
-        requires issuer { issuer ≡ running (seen R.Roll.meaning R.Roll.lever self.old).state.tasks }
-        ensures { Obeys (seen R.Roll.meaning R.Roll.lever self.old) issuer (ChapOf task level) sheet.old (seen R.Roll.meaning R.Roll.lever self.new) result sheet.new }
+    pub(crate) fn obey_chap(&mut self, task: u8, level: u8) -> Result<Effect, Answer>
+        requires { level ≤ 4 }
+        ensures { Changes (seen R.Roll.meaning R.Roll.lever self.old) (ChapOf task level) (seen R.Roll.meaning R.Roll.lever self.new) result }
     {
-        if !self.setup.is_registered(task) {
-            return Answer::silent(Code::NotRegistered);
-        }
-        if !self.tasks.is_released(task) {
-            return Answer::silent(Code::Dormant);
-        }
+        check(!self.setup.is_registered(task), Code::NotRegistered)?;
+        check(!self.tasks.is_released(task), Code::Dormant)?;
         self.tasks.set_level(task, level);
-        self.settle(Code::Done, issuer, false, 0, sheet)
+        Ok(Effect::quiet())
     }
 
     // A factor of a task is set.
-    pub(crate) fn obey_sfact(
-        &mut self,
-        task: u8,
-        factor: u8,
-        issuer: u8,
-        sheet: &mut [Event],
-    ) -> Answer
+    pub(crate) fn obey_sfact(&mut self, task: u8, factor: u8) -> Result<Effect, Answer>
         requires { factor ≤ 16 }
-        ensures { Obeys (seen R.Roll.meaning R.Roll.lever self.old) issuer (SfactOf task factor) sheet.old (seen R.Roll.meaning R.Roll.lever self.new) result sheet.new }
+        ensures { Changes (seen R.Roll.meaning R.Roll.lever self.old) (SfactOf task factor) (seen R.Roll.meaning R.Roll.lever self.new) result }
     {
-        if !self.setup.is_registered(task) {
-            return Answer::silent(Code::NotRegistered);
-        }
-        if !self.tasks.is_released(task) {
-            return Answer::silent(Code::Dormant);
-        }
-        if self.tasks.has_factor(task, factor) {
-            return Answer::silent(Code::FactorSet);
-        }
+        check(!self.setup.is_registered(task), Code::NotRegistered)?;
+        check(!self.tasks.is_released(task), Code::Dormant)?;
+        check(self.tasks.has_factor(task, factor), Code::FactorSet)?;
         self.tasks.set_factor(task, factor);
-        Answer::done()
+        Ok(Effect::quiet())
     }
 
     // The issuer's smallest factor is taken; 0 is answered where none is set.
-    pub(crate) fn obey_gfact(&mut self, issuer: u8, sheet: &mut [Event]) -> Answer
+    pub(crate) fn obey_gfact(&mut self, issuer: u8) -> Effect
         requires { issuer ≤ 127 }
-        ensures { Obeys (seen R.Roll.meaning R.Roll.lever self.old) issuer GfactOf sheet.old (seen R.Roll.meaning R.Roll.lever self.new) result sheet.new }
+        ensures { Obeys (seen R.Roll.meaning R.Roll.lever self.old) issuer GfactOf [] (seen R.Roll.meaning R.Roll.lever self.new) (Ok result) [] }
     {
-        let factor = match self.tasks.take_factor(issuer) {
-            Some(factor) => factor,
-            None => 0,
+        let factor = self.tasks.take_factor(issuer).unwrap_or(0);
+        Effect {
+            answer: Answer {
+                factor,
+                ..Answer::done()
+            },
+            over: false,
+        }
+    }
+
+    // A task is held, or its hold ends.
+    pub(crate) fn obey_hold(&mut self, task: u8, held: bool) -> Result<Effect, Answer>
+        ensures { Changes (seen R.Roll.meaning R.Roll.lever self.old) (if held then SuspOf task else RsumOf task) (seen R.Roll.meaning R.Roll.lever self.new) result }
+    {
+        check(!self.setup.is_registered(task), Code::NotRegistered)?;
+        check(!R::has_lever(), Code::NoLever)?;
+        check(!self.tasks.is_released(task), Code::Dormant)?;
+        let changed = if held {
+            self.tasks.hold(task)
+        } else {
+            self.tasks.unhold(task)
         };
-        Answer {
-            code: Code::Done,
-            told: 0,
-            factor,
-        }
-    }
-
-    // A task is held.
-    pub(crate) fn obey_susp(&mut self, task: u8, issuer: u8, sheet: &mut [Event]) -> Answer
-        requires room { 100 ≤ length sheet.old }
-        requires issuer { issuer ≡ running (seen R.Roll.meaning R.Roll.lever self.old).state.tasks }
-        ensures { Obeys (seen R.Roll.meaning R.Roll.lever self.old) issuer (SuspOf task) sheet.old (seen R.Roll.meaning R.Roll.lever self.new) result sheet.new }
-    {
-        if !self.setup.is_registered(task) {
-            return Answer::silent(Code::NotRegistered);
-        }
-        if !R::has_lever() {
-            return Answer::silent(Code::NoLever);
-        }
-        if !self.tasks.is_released(task) {
-            return Answer::silent(Code::Dormant);
-        }
-        if !self.tasks.hold(task) {
-            return Answer::silent(Code::HoldStands);
-        }
-        self.settle(Code::Done, issuer, false, 0, sheet)
-    }
-
-    // A task's hold ends.
-    pub(crate) fn obey_rsum(&mut self, task: u8, issuer: u8, sheet: &mut [Event]) -> Answer
-        requires room { 100 ≤ length sheet.old }
-        requires issuer { issuer ≡ running (seen R.Roll.meaning R.Roll.lever self.old).state.tasks }
-        ensures { Obeys (seen R.Roll.meaning R.Roll.lever self.old) issuer (RsumOf task) sheet.old (seen R.Roll.meaning R.Roll.lever self.new) result sheet.new }
-    {
-        if !self.setup.is_registered(task) {
-            return Answer::silent(Code::NotRegistered);
-        }
-        if !R::has_lever() {
-            return Answer::silent(Code::NoLever);
-        }
-        if !self.tasks.is_released(task) {
-            return Answer::silent(Code::Dormant);
-        }
-        if !self.tasks.unhold(task) {
-            return Answer::silent(Code::HoldStands);
-        }
-        self.settle(Code::Done, issuer, false, 0, sheet)
+        check(!changed, Code::HoldStands)?;
+        Ok(Effect::quiet())
     }
 }

@@ -3,36 +3,32 @@
 ghost use Rattle.std.specs.Prelude.{◌≡◌, ◌+◌, ◌<◌, List, ◌++◌, length};
 ghost use Rattle.sheet.specs.declared.event.Event.{Event};
 ghost use Rattle.sheet.specs.Sheets.{written};
-ghost use Rattle.rules.specs.State.{running};
+ghost use Rattle.rules.specs.State.{numbered, running};
 ghost use Rattle.rules.specs.Refusals.{turn};
 ghost use Rattle.kernel.specs.Views.{seen};
 
+use crate::effect::Effect;
 use crate::kernel::Kernel;
 use roll::Roll;
-use rules::{Answer, Code};
+use rules::Answer;
 use sheet::Event;
 
 impl<R: Roll> Kernel<R> {
     // Behind the events that stand at the front of the sheet, `runs` is told if the processor has changed hands since
     // the task `was` had it, or if the start that had it is over.
-    pub(crate) fn settle(
-        &mut self,
-        code: Code,
-        was: u8,
-        over: bool,
-        told: usize,
-        sheet: &mut [Event],
-    ) -> Answer
-        requires { told < length sheet.old }
+    pub(crate) fn settle(&mut self, was: Option<u8>, effect: Effect, sheet: &mut [Event]) -> Answer
+        requires { effect.answer.told < length sheet.old }
         ensures same { seen R.Roll.meaning R.Roll.lever self.new ≡ seen R.Roll.meaning R.Roll.lever self.old }
-        ensures answer { result ≡ record { code = code; told = told + length (turn was over (running (seen R.Roll.meaning R.Roll.lever self.old).state.tasks)); factor = 0 } }
-        ensures sheet { (front given : List Event) → told ≡ length front → sheet.old ≡ written front given → sheet.new ≡ written (front ++ turn was over (running (seen R.Roll.meaning R.Roll.lever self.old).state.tasks)) given }
+        ensures answer { result ≡ record { code = effect.answer.code; told = effect.answer.told + length (turn (numbered was) effect.over (running (seen R.Roll.meaning R.Roll.lever self.old).state.tasks)); factor = effect.answer.factor } }
+        ensures sheet { (front given : List Event) → effect.answer.told ≡ length front → sheet.old ≡ written front given → sheet.new ≡ written (front ++ turn (numbered was) effect.over (running (seen R.Roll.meaning R.Roll.lever self.old).state.tasks)) given }
     {
-        let turn = self.tasks.tell_turn(was, over, &mut sheet[told..]);
+        let Effect { answer, over } = effect;
+        let turn = self
+            .tasks
+            .tell_turn(was.unwrap_or(0), over, &mut sheet[answer.told..]);
         Answer {
-            code,
-            told: told + turn,
-            factor: 0,
+            told: answer.told + turn,
+            ..answer
         }
     }
 }

@@ -1,33 +1,43 @@
 //! The macros on timers, wakes and the clock, once their common checks are passed.
 
-ghost use Rattle.std.specs.Prelude.{◌≡◌, ◌<◌, ◌≤◌, length};
+ghost use Rattle.std.specs.Prelude.{◌≡◌, ◌<◌, ◌≤◌, not, [], length, filter, if◌then◌else◌, Ok, Err, OnErr, nat_eq};
+ghost use Rattle.table.specs.declared.selection.Selection.TheVariants.{Set as SetOf};
+ghost use Rattle.table.specs.Rows.{entries};
+ghost use Rattle.rules.specs.declared.answer.Code.TheVariants.{NothingSet as NothingSetOf, TableFull as TableFullOf};
 ghost use Rattle.rules.specs.declared.call.Macro.TheVariants.{Delay as DelayOf, Timer as TimerOf, Ctime as CtimeOf, Wake as WakeOf, Cwake as CwakeOf, Stime as StimeOf};
-ghost use Rattle.rules.specs.State.{running};
 ghost use Rattle.kernel.specs.Views.{seen};
-ghost use Rattle.kernel.specs.Obeys.{Obeys};
+ghost use Rattle.kernel.specs.Obeys.{Obeys, Changes};
 
+use crate::effect::{Effect, check};
 use crate::kernel::Kernel;
 use roll::Roll;
 use rules::{Answer, Code};
-use sheet::Event;
+use table::entry::TableEntry;
 use table::row;
 use table::selection::Selection;
 use table::timer::Timer;
 use table::wake::Wake;
 
+// A cancel: every entry of a table that was set for a task and a factor goes.
+fn cancel<E: TableEntry>(places: &mut [E::Place], task: u8, factor: u8) -> Result<(), Code>
+    ensures outcome { result ≡ (if nat_eq (length (filter (E.TableEntry.chosen (SetOf task factor)) (entries E.TableEntry.live places.old))) 0 then Err NothingSetOf else Ok tt) }
+    ensures entries { entries E.TableEntry.live places.new ≡ filter (λ p. not (E.TableEntry.chosen (SetOf task factor) p)) (entries E.TableEntry.live places.old) }
+    ensures same { OnErr result (entries E.TableEntry.live places.new ≡ entries E.TableEntry.live places.old) }
+{
+    let removed = row::remove::<E>(places, Selection::Set { task, factor });
+    check(removed == 0, Code::NothingSet)
+}
+
 impl<R: Roll> Kernel<R> {
     // The issuer sleeps.
-    pub(crate) fn obey_delay(&mut self, t: u32, issuer: u8, sheet: &mut [Event]) -> Answer
-        requires range { (1 ≤ issuer) × (issuer ≤ 127) }
-        requires room { 100 ≤ length sheet.old }
-        requires issuer { issuer ≡ running (seen R.Roll.meaning R.Roll.lever self.old).state.tasks }
-        ensures { Obeys (seen R.Roll.meaning R.Roll.lever self.old) issuer (DelayOf t) sheet.old (seen R.Roll.meaning R.Roll.lever self.new) result sheet.new }
+    pub(crate) fn obey_delay(&mut self, t: u32, issuer: u8) -> Result<Effect, Answer>
+        requires { (1 ≤ issuer) × (issuer ≤ 127) }
+        ensures { Obeys (seen R.Roll.meaning R.Roll.lever self.old) issuer (DelayOf t) [] (seen R.Roll.meaning R.Roll.lever self.new) result [] }
     {
-        if !row::add::<Timer>(&mut self.timers, Timer::delay(issuer, t)) {
-            return Answer::silent(Code::TableFull);
-        }
+        let added = row::add::<Timer>(&mut self.timers, Timer::delay(issuer, t));
+        check(!added, Code::TableFull)?;
         self.tasks.sleep(issuer);
-        self.settle(Code::Done, issuer, false, 0, sheet)
+        Ok(Effect::quiet())
     }
 
     // A timer is set for a task.
@@ -37,35 +47,22 @@ impl<R: Roll> Kernel<R> {
         t: u32,
         cycle: u32,
         factor: u8,
-        issuer: u8,
-        sheet: &mut [Event],
-    ) -> Answer
+    ) -> Result<Effect, Answer>
         requires { factor ≤ 16 }
-        ensures { Obeys (seen R.Roll.meaning R.Roll.lever self.old) issuer (TimerOf task t cycle factor) sheet.old (seen R.Roll.meaning R.Roll.lever self.new) result sheet.new }
+        ensures { Changes (seen R.Roll.meaning R.Roll.lever self.old) (TimerOf task t cycle factor) (seen R.Roll.meaning R.Roll.lever self.new) result }
     {
-        if !self.setup.is_registered(task) {
-            return Answer::silent(Code::NotRegistered);
-        }
-        if !row::add::<Timer>(&mut self.timers, Timer::timer(task, factor, t, cycle)) {
-            return Answer::silent(Code::TableFull);
-        }
-        Answer::done()
+        check(!self.setup.is_registered(task), Code::NotRegistered)?;
+        let added = row::add::<Timer>(&mut self.timers, Timer::timer(task, factor, t, cycle));
+        check(!added, Code::TableFull)?;
+        Ok(Effect::quiet())
     }
 
     // All timers of a task and a factor go.
-    pub(crate) fn obey_ctime(
-        &mut self,
-        task: u8,
-        factor: u8,
-        issuer: u8,
-        sheet: &mut [Event],
-    ) -> Answer
-        ensures { Obeys (seen R.Roll.meaning R.Roll.lever self.old) issuer (CtimeOf task factor) sheet.old (seen R.Roll.meaning R.Roll.lever self.new) result sheet.new }
+    pub(crate) fn obey_ctime(&mut self, task: u8, factor: u8) -> Result<Effect, Answer>
+        ensures { Changes (seen R.Roll.meaning R.Roll.lever self.old) (CtimeOf task factor) (seen R.Roll.meaning R.Roll.lever self.new) result }
     {
-        if row::remove::<Timer>(&mut self.timers, Selection::Set { task, factor }) == 0 {
-            return Answer::silent(Code::NothingSet);
-        }
-        Answer::done()
+        cancel::<Timer>(&mut self.timers, task, factor)?;
+        Ok(Effect::quiet())
     }
 
     // A wake is set for a task.
@@ -75,43 +72,30 @@ impl<R: Roll> Kernel<R> {
         factor: u8,
         second: u32,
         cycle: u32,
-        issuer: u8,
-        sheet: &mut [Event],
-    ) -> Answer
+    ) -> Result<Effect, Answer>
         requires { factor ≤ 16 }
-        ensures { Obeys (seen R.Roll.meaning R.Roll.lever self.old) issuer (WakeOf task factor second cycle) sheet.old (seen R.Roll.meaning R.Roll.lever self.new) result sheet.new }
+        ensures { Changes (seen R.Roll.meaning R.Roll.lever self.old) (WakeOf task factor second cycle) (seen R.Roll.meaning R.Roll.lever self.new) result }
     {
-        if !self.setup.is_registered(task) {
-            return Answer::silent(Code::NotRegistered);
-        }
-        if !row::add::<Wake>(&mut self.wakes, Wake::waiting(task, factor, second, cycle)) {
-            return Answer::silent(Code::TableFull);
-        }
-        Answer::done()
+        check(!self.setup.is_registered(task), Code::NotRegistered)?;
+        let added = row::add::<Wake>(&mut self.wakes, Wake::waiting(task, factor, second, cycle));
+        check(!added, Code::TableFull)?;
+        Ok(Effect::quiet())
     }
 
     // All wakes of a task and a factor go.
-    pub(crate) fn obey_cwake(
-        &mut self,
-        task: u8,
-        factor: u8,
-        issuer: u8,
-        sheet: &mut [Event],
-    ) -> Answer
-        ensures { Obeys (seen R.Roll.meaning R.Roll.lever self.old) issuer (CwakeOf task factor) sheet.old (seen R.Roll.meaning R.Roll.lever self.new) result sheet.new }
+    pub(crate) fn obey_cwake(&mut self, task: u8, factor: u8) -> Result<Effect, Answer>
+        ensures { Changes (seen R.Roll.meaning R.Roll.lever self.old) (CwakeOf task factor) (seen R.Roll.meaning R.Roll.lever self.new) result }
     {
-        if row::remove::<Wake>(&mut self.wakes, Selection::Set { task, factor }) == 0 {
-            return Answer::silent(Code::NothingSet);
-        }
-        Answer::done()
+        cancel::<Wake>(&mut self.wakes, task, factor)?;
+        Ok(Effect::quiet())
     }
 
     // The clock moves to the beginning of a second.
-    pub(crate) fn obey_stime(&mut self, second: u32, issuer: u8, sheet: &mut [Event]) -> Answer
+    pub(crate) fn obey_stime(&mut self, second: u32) -> Effect
         requires { second < 86400 }
-        ensures { Obeys (seen R.Roll.meaning R.Roll.lever self.old) issuer (StimeOf second) sheet.old (seen R.Roll.meaning R.Roll.lever self.new) result sheet.new }
+        ensures { Changes (seen R.Roll.meaning R.Roll.lever self.old) (StimeOf second) (seen R.Roll.meaning R.Roll.lever self.new) (Ok result) }
     {
         self.clock.set(second);
-        Answer::done()
+        Effect::quiet()
     }
 }

@@ -1,21 +1,17 @@
-use Rattle.std.proofs.Common.{length, sym, ap}
-use Rattle.rules.specs.declared.call.Call.{Call}
-use Rattle.rules.specs.Calls.{called}
-use Rattle.kernel.specs.Views.{seen}
-use Rattle.kernel.proofs.Settled.{comes_as}
+use Rattle.std.proofs.Common.{refl, sym, ap, ◌∙◌}
+use Rattle.roll.specs.Model.{first_in}
+use Rattle.rules.specs.State.{Tasks, numbered}
+use Rattle.kernel.proofs.Same.{same_state, same_station}
+use Rattle.kernel.proofs.Settled.{settled_comes, performed}
 use Rattle.kernel.proofs.kernel.Kernel.carry_out.Goals as goal
 
-pub returns-in-Macro : goal.returns-in-Macro
-returns-in-Macro g c =
-    let v = seen g.R.Roll.meaning g.R.Roll.lever c.args.self.now in
-    comes_as (ap (λ (x : Call). called v.setup v.state x (length c.args.sheet.now)) (sym c.in-Macro.is)) c.issue.ensures
+pub returns-in-Ok : goal.returns-in-Ok
+returns-in-Ok g c =
+    let w = c.in-Ok.ensures in
+    let f = c.first-was.ensures in
+    let s = c.settle.ensures in
+    performed c.args.call (same_station refl (same_state f.same refl refl refl)) c.if-sheet-lt-LEAST_SHEET.false w.2
+    (settled_comes c.first-was.result w.3 (ap numbered (f.answer ∙ sym (ap (λ (v : Tasks). first_in v.roll) f.same))) s.same s.answer s.sheet)
 
-pub returns-in-Tick : goal.returns-in-Tick
-returns-in-Tick g c =
-    let v = seen g.R.Roll.meaning g.R.Roll.lever c.args.self.now in
-    comes_as (ap (λ (x : Call). called v.setup v.state x (length c.args.sheet.now)) (sym c.in-Tick.is)) c.do_tick.ensures
-
-pub returns-in-Coil : goal.returns-in-Coil
-returns-in-Coil g c =
-    let v = seen g.R.Roll.meaning g.R.Roll.lever c.args.self.now in
-    comes_as (ap (λ (x : Call). called v.setup v.state x (length c.args.sheet.now)) (sym c.in-Coil.is)) c.do_coil.ensures
+pub returns-in-Err : goal.returns-in-Err
+returns-in-Err g c = performed c.args.call (same_station refl (same_state c.first-was.ensures.same refl refl refl)) c.if-sheet-lt-LEAST_SHEET.false refl c.in-Err.ensures
