@@ -1,5 +1,6 @@
-pub mod Agreed
 pub mod Same
 pub mod Beaten
 pub mod Settled
+pub mod Issues
+pub mod Rows
 pub mod Numbers

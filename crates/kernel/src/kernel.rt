@@ -5,15 +5,15 @@ ghost use Rattle.std.specs.Prelude.{◌≡◌, length};
 use crate::setup::Setup;
 use table::clock::Clock;
 use table::entry::TableEntry;
-use table::timer::TimerPlace;
-use table::wake::WakePlace;
+use table::timer::{Timer, TimerPlace};
+use table::wake::{Wake, WakePlace};
 use tasks::TaskTable;
 
 pub struct Kernel<R> {
     setup: Setup,
     tasks: TaskTable<R>,
-    timers: [TimerPlace; <table::timer::Timer as TableEntry>::PLACES],
-    wakes: [WakePlace; <table::wake::Wake as TableEntry>::PLACES],
+    timers: [TimerPlace; Timer::PLACES],
+    wakes: [WakePlace; Wake::PLACES],
     clock: Clock,
     ghost sized: { (length timers ≡ 64) × (length wakes ≡ 32) },
 }

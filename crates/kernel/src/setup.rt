@@ -1,14 +1,15 @@
 //! What a station keeps of its book.
 
-ghost use Rattle.std.specs.Prelude.{◌≡◌, ℕ, ◌≤◌, false, length, slice_index, slice_index_or};
+ghost use Rattle.std.specs.Prelude.{◌≡◌, length, None, slice_index_or};
 
+use numbers::Level;
+
+// The written level of each task that the book has a row for, by the task's number.
 #[derive(Drop)]
 pub struct Setup {
-    registered: [bool; 128],
-    written: [u8; 128],
-    ghost sized: { (length registered ≡ 128) × (length written ≡ 128) },
-    ghost nobody: { slice_index_or registered 0 false ≡ false },
-    ghost ranked: { (t : ℕ) → slice_index written t ≤ 4 },
+    rows: [Option<Level>; 128],
+    ghost sized: { length rows ≡ 128 },
+    ghost nobody: { slice_index_or rows 0 None ≡ None },
 }
 
 mod read;

@@ -1,6 +1,6 @@
 //! From a call to what is done: the checks that are common to all, and then each macro's own.
 
-ghost use Rattle.std.specs.Prelude.{◌≡◌, ◌≤◌, true, length, IfSome};
+ghost use Rattle.std.specs.Prelude.{◌≡◌, ◌≤◌, true, length, option_copied};
 ghost use Rattle.rules.specs.declared.answer.Code.TheVariants.{FieldRange as FieldRangeOf};
 ghost use Rattle.rules.specs.declared.call.Call.TheVariants.{Macro as MacroOf};
 ghost use Rattle.roll.specs.Model.{first_in};
@@ -12,15 +12,15 @@ ghost use Rattle.kernel.specs.Obeys.{Did, Obeys, Works};
 
 use crate::effect::{Effect, check};
 use crate::kernel::Kernel;
+use numbers::{Factor, Level, Task};
 use roll::Roll;
 use rules::{Answer, Call, Code, LEAST_SHEET, Macro, is_task_field};
 use sheet::Event;
 
 impl<R: Roll> Kernel<R> {
     // A macro with a field out of range: the issuer's starts are cut, as by an abort.
-    fn cut_issuer(&mut self, issuer: u8, sheet: &mut [Event]) -> Effect
-        requires range { (1 ≤ issuer) × (issuer ≤ 127) }
-        requires room { 100 ≤ length sheet.old }
+    fn cut_issuer(&mut self, issuer: Task, sheet: &mut [Event]) -> Effect
+        requires { 100 ≤ length sheet.old }
         ensures { Did FieldRangeOf (cutting (seen R.Roll.meaning R.Roll.lever self.old).setup (seen R.Roll.meaning R.Roll.lever self.old).state issuer issuer) (seen R.Roll.meaning R.Roll.lever self.old) sheet.old (seen R.Roll.meaning R.Roll.lever self.new) result sheet.new }
     {
         let told = self.cut(issuer, sheet);
@@ -34,15 +34,14 @@ impl<R: Roll> Kernel<R> {
     }
 
     // What a macro in range does, or its own causes to turn it down.
-    fn obey(&mut self, m: Macro, issuer: u8, sheet: &mut [Event]) -> Result<Effect, Answer>
+    fn obey(&mut self, m: Macro, issuer: Task, sheet: &mut [Event]) -> Result<Effect, Answer>
         requires fields { in_range m ≡ true }
-        requires range { (1 ≤ issuer) × (issuer ≤ 127) }
         requires room { 100 ≤ length sheet.old }
         ensures { Obeys (seen R.Roll.meaning R.Roll.lever self.old) issuer m sheet.old (seen R.Roll.meaning R.Roll.lever self.new) result sheet.new }
     {
         match m {
             Macro::Rleas { task } => self.obey_rleas(task),
-            Macro::Queue { task, factor } => self.begin(task, Some(factor), sheet),
+            Macro::Queue { task, factor } => self.begin(task, Some(Factor::within(factor)), sheet),
             Macro::Abort { task } => self.obey_abort(task, issuer, sheet),
             Macro::Delay { t } => self.obey_delay(t, issuer),
             Macro::Timer {
@@ -50,10 +49,10 @@ impl<R: Roll> Kernel<R> {
                 t,
                 cycle,
                 factor,
-            } => self.obey_timer(task, t, cycle, factor),
+            } => self.obey_timer(task, Factor::within(factor), t, cycle),
             Macro::Ctime { task, factor } => self.obey_ctime(task, factor),
-            Macro::Chap { task, level } => self.obey_chap(task, level),
-            Macro::Sfact { task, factor } => self.obey_sfact(task, factor),
+            Macro::Chap { task, level } => self.obey_chap(task, Level::within(level)),
+            Macro::Sfact { task, factor } => self.obey_sfact(task, Factor::within(factor)),
             Macro::Gfact => Ok(self.obey_gfact(issuer)),
             Macro::Susp { task } => self.obey_hold(task, true),
             Macro::Rsum { task } => self.obey_hold(task, false),
@@ -62,7 +61,7 @@ impl<R: Roll> Kernel<R> {
                 factor,
                 second,
                 cycle,
-            } => self.obey_wake(task, factor, second, cycle),
+            } => self.obey_wake(task, Factor::within(factor), second, cycle),
             Macro::Cwake { task, factor } => self.obey_cwake(task, factor),
             Macro::Stime { second } => Ok(self.obey_stime(second)),
             Macro::Exit => Ok(self.obey_exit(issuer, sheet)),
@@ -70,13 +69,12 @@ impl<R: Roll> Kernel<R> {
     }
 
     // A macro of the task that has the processor, if one has it.
-    fn issue(&mut self, m: Macro, was: Option<u8>, sheet: &mut [Event]) -> Result<Effect, Answer>
+    fn issue(&mut self, m: Macro, was: Option<&Task>, sheet: &mut [Event]) -> Result<Effect, Answer>
         requires room { 100 ≤ length sheet.old }
-        requires was { was ≡ first_in (seen R.Roll.meaning R.Roll.lever self.old).state.tasks.roll }
-        requires within { IfSome was (λ t. (1 ≤ t) × (t ≤ 127)) }
+        requires was { option_copied was ≡ first_in (seen R.Roll.meaning R.Roll.lever self.old).state.tasks.roll }
         ensures { Works (seen R.Roll.meaning R.Roll.lever self.old) (MacroOf m) sheet.old (seen R.Roll.meaning R.Roll.lever self.new) result sheet.new }
     {
-        let issuer = was.ok_or(Code::Idle)?;
+        let issuer = *was.ok_or(Code::Idle)?;
         if !m.is_in_range() {
             return Ok(self.cut_issuer(issuer, sheet));
         }
@@ -84,10 +82,14 @@ impl<R: Roll> Kernel<R> {
     }
 
     // What a call does on a sheet that is long enough, while `was` has the processor.
-    fn work(&mut self, call: Call, was: Option<u8>, sheet: &mut [Event]) -> Result<Effect, Answer>
+    fn work(
+        &mut self,
+        call: Call,
+        was: Option<&Task>,
+        sheet: &mut [Event],
+    ) -> Result<Effect, Answer>
         requires room { 100 ≤ length sheet.old }
-        requires was { was ≡ first_in (seen R.Roll.meaning R.Roll.lever self.old).state.tasks.roll }
-        requires within { IfSome was (λ t. (1 ≤ t) × (t ≤ 127)) }
+        requires was { option_copied was ≡ first_in (seen R.Roll.meaning R.Roll.lever self.old).state.tasks.roll }
         ensures { Works (seen R.Roll.meaning R.Roll.lever self.old) call sheet.old (seen R.Roll.meaning R.Roll.lever self.new) result sheet.new }
     {
         match call {
@@ -108,7 +110,7 @@ impl<R: Roll> Kernel<R> {
             return Answer::silent(Code::ShortSheet);
         }
         let was = self.tasks.first();
-        match self.work(call, was, sheet) {
+        match self.work(call, was.as_ref(), sheet) {
             Ok(effect) => self.settle(was, effect, sheet),
             Err(answer) => answer,
         }

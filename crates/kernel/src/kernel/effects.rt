@@ -8,6 +8,7 @@ ghost use Rattle.rules.specs.Effects.{cutting};
 ghost use Rattle.kernel.specs.Views.{seen};
 
 use crate::kernel::Kernel;
+use numbers::Task;
 use roll::Roll;
 use sheet::{Event, Kind, tell_times};
 use table::row;
@@ -19,20 +20,21 @@ use tasks::TaskTable;
 impl<R: Roll> Kernel<R> {
     // Cuts all starts of a task, and its delay goes; one event each stands at the front of the sheet then. Answers how
     // many there were.
-    pub(crate) fn cut(&mut self, task: u8, sheet: &mut [Event]) -> usize
-        requires { (1 ≤ task) × (task ≤ 127) × (2 ≤ length sheet.old) }
+    pub(crate) fn cut(&mut self, task: Task, sheet: &mut [Event]) -> usize
+        requires { 2 ≤ length sheet.old }
         ensures setup { (seen R.Roll.meaning R.Roll.lever self.new).setup ≡ (seen R.Roll.meaning R.Roll.lever self.old).setup }
         ensures state { (seen R.Roll.meaning R.Roll.lever self.new).state ≡ (cutting (seen R.Roll.meaning R.Roll.lever self.old).setup (seen R.Roll.meaning R.Roll.lever self.old).state task task).state }
         ensures count { result ≡ length (cut_events (seen R.Roll.meaning R.Roll.lever self.old).state.tasks task) }
         ensures bound { result ≤ 2 }
         ensures sheet { sheet.new ≡ written (cut_events (seen R.Roll.meaning R.Roll.lever self.old).state.tasks task) sheet.old }
     {
+        let number = task.get();
         let level = self.setup.level(task);
         let count = self.tasks.strip(task, level) as usize;
-        let _ = row::remove::<Timer>(&mut self.timers, Selection::Delay { task });
+        let _ = row::remove::<Timer>(&mut self.timers, Selection::Delay { task: number });
         let event = Event {
             kind: Kind::Cut,
-            task,
+            task: number,
         };
         tell_times(sheet, event, count);
         count

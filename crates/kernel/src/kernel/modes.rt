@@ -1,12 +1,13 @@
 //! The macros that change a task beside its starts, once their common checks are passed.
 
-ghost use Rattle.std.specs.Prelude.{◌≡◌, ◌≤◌, [], if◌then◌else◌, Ok};
+ghost use Rattle.std.specs.Prelude.{[], if◌then◌else◌, Ok};
 ghost use Rattle.rules.specs.declared.call.Macro.TheVariants.{Rleas as RleasOf, Chap as ChapOf, Sfact as SfactOf, Gfact as GfactOf, Susp as SuspOf, Rsum as RsumOf};
 ghost use Rattle.kernel.specs.Views.{seen};
 ghost use Rattle.kernel.specs.Obeys.{Obeys, Changes};
 
 use crate::effect::{Effect, check};
 use crate::kernel::Kernel;
+use numbers::{Bounded, Factor, Level, Task};
 use roll::Roll;
 use rules::{Answer, Code};
 
@@ -15,41 +16,38 @@ impl<R: Roll> Kernel<R> {
     pub(crate) fn obey_rleas(&mut self, task: u8) -> Result<Effect, Answer>
         ensures { Changes (seen R.Roll.meaning R.Roll.lever self.old) (RleasOf task) (seen R.Roll.meaning R.Roll.lever self.new) result }
     {
-        check(!self.setup.is_registered(task), Code::NotRegistered)?;
-        check(self.tasks.is_released(task), Code::IsReleased)?;
+        let task = self.setup.registered(task)?;
+        check(self.tasks.is_released(task.get()), Code::IsReleased)?;
         self.tasks.release(task);
         Ok(Effect::quiet())
     }
 
     // The present level of a task changes.
-    pub(crate) fn obey_chap(&mut self, task: u8, level: u8) -> Result<Effect, Answer>
-        requires { level ≤ 4 }
+    pub(crate) fn obey_chap(&mut self, task: u8, level: Level) -> Result<Effect, Answer>
         ensures { Changes (seen R.Roll.meaning R.Roll.lever self.old) (ChapOf task level) (seen R.Roll.meaning R.Roll.lever self.new) result }
     {
-        check(!self.setup.is_registered(task), Code::NotRegistered)?;
-        check(!self.tasks.is_released(task), Code::Dormant)?;
+        let task = self.setup.registered(task)?;
+        check(!self.tasks.is_released(task.get()), Code::Dormant)?;
         self.tasks.set_level(task, level);
         Ok(Effect::quiet())
     }
 
     // A factor of a task is set.
-    pub(crate) fn obey_sfact(&mut self, task: u8, factor: u8) -> Result<Effect, Answer>
-        requires { factor ≤ 16 }
+    pub(crate) fn obey_sfact(&mut self, task: u8, factor: Factor) -> Result<Effect, Answer>
         ensures { Changes (seen R.Roll.meaning R.Roll.lever self.old) (SfactOf task factor) (seen R.Roll.meaning R.Roll.lever self.new) result }
     {
-        check(!self.setup.is_registered(task), Code::NotRegistered)?;
-        check(!self.tasks.is_released(task), Code::Dormant)?;
+        let task = self.setup.registered(task)?;
+        check(!self.tasks.is_released(task.get()), Code::Dormant)?;
         check(self.tasks.has_factor(task, factor), Code::FactorSet)?;
         self.tasks.set_factor(task, factor);
         Ok(Effect::quiet())
     }
 
     // The issuer's smallest factor is taken; 0 is answered where none is set.
-    pub(crate) fn obey_gfact(&mut self, issuer: u8) -> Effect
-        requires { issuer ≤ 127 }
+    pub(crate) fn obey_gfact(&mut self, issuer: Task) -> Effect
         ensures { Obeys (seen R.Roll.meaning R.Roll.lever self.old) issuer GfactOf [] (seen R.Roll.meaning R.Roll.lever self.new) (Ok result) [] }
     {
-        let factor = self.tasks.take_factor(issuer).unwrap_or(0);
+        let factor = self.tasks.take_factor(issuer).map_or(0, Bounded::get);
         Effect {
             answer: Answer {
                 factor,
@@ -63,15 +61,12 @@ impl<R: Roll> Kernel<R> {
     pub(crate) fn obey_hold(&mut self, task: u8, held: bool) -> Result<Effect, Answer>
         ensures { Changes (seen R.Roll.meaning R.Roll.lever self.old) (if held then SuspOf task else RsumOf task) (seen R.Roll.meaning R.Roll.lever self.new) result }
     {
-        check(!self.setup.is_registered(task), Code::NotRegistered)?;
-        check(!R::has_lever(), Code::NoLever)?;
-        check(!self.tasks.is_released(task), Code::Dormant)?;
-        let changed = if held {
-            self.tasks.hold(task)
-        } else {
-            self.tasks.unhold(task)
-        };
-        check(!changed, Code::HoldStands)?;
+        let task = self.setup.registered(task)?;
+        check(!R::LEVER, Code::NoLever)?;
+        check(!self.tasks.is_released(task.get()), Code::Dormant)?;
+        self.tasks
+            .set_hold(task, held)
+            .map_err(|_| Code::HoldStands)?;
         Ok(Effect::quiet())
     }
 }

@@ -11,6 +11,8 @@ use book::Book;
 use roll::Roll;
 use table::clock::Clock;
 use table::entry::TableEntry;
+use table::timer::Timer;
+use table::wake::Wake;
 use tasks::TaskTable;
 
 impl<R: Roll> Kernel<R> {
@@ -24,8 +26,8 @@ impl<R: Roll> Kernel<R> {
         Kernel {
             setup,
             tasks: TaskTable::powered(roll, levels),
-            timers: [<table::timer::Timer as TableEntry>::free(); <table::timer::Timer as TableEntry>::PLACES],
-            wakes: [<table::wake::Wake as TableEntry>::free(); <table::wake::Wake as TableEntry>::PLACES],
+            timers: [Timer::free(); Timer::PLACES],
+            wakes: [Wake::free(); Wake::PLACES],
             clock: Clock::midnight(),
         }
     }

@@ -9,6 +9,7 @@ ghost use Rattle.kernel.specs.Views.{seen};
 
 use crate::effect::Effect;
 use crate::kernel::Kernel;
+use numbers::Task;
 use roll::Roll;
 use rules::Answer;
 use sheet::Event;
@@ -16,16 +17,19 @@ use sheet::Event;
 impl<R: Roll> Kernel<R> {
     // Behind the events that stand at the front of the sheet, `runs` is told if the processor has changed hands since
     // the task `was` had it, or if the start that had it is over.
-    pub(crate) fn settle(&mut self, was: Option<u8>, effect: Effect, sheet: &mut [Event]) -> Answer
+    pub(crate) fn settle(
+        &mut self,
+        was: Option<Task>,
+        effect: Effect,
+        sheet: &mut [Event],
+    ) -> Answer
         requires { effect.answer.told < length sheet.old }
         ensures same { seen R.Roll.meaning R.Roll.lever self.new ≡ seen R.Roll.meaning R.Roll.lever self.old }
         ensures answer { result ≡ record { code = effect.answer.code; told = effect.answer.told + length (turn (numbered was) effect.over (running (seen R.Roll.meaning R.Roll.lever self.old).state.tasks)); factor = effect.answer.factor } }
         ensures sheet { (front given : List Event) → effect.answer.told ≡ length front → sheet.old ≡ written front given → sheet.new ≡ written (front ++ turn (numbered was) effect.over (running (seen R.Roll.meaning R.Roll.lever self.old).state.tasks)) given }
     {
         let Effect { answer, over } = effect;
-        let turn = self
-            .tasks
-            .tell_turn(was.unwrap_or(0), over, &mut sheet[answer.told..]);
+        let turn = self.tasks.tell_turn(was, over, &mut sheet[answer.told..]);
         Answer {
             told: answer.told + turn,
             ..answer

@@ -1,13 +1,13 @@
 //! The calls that begin and finish starts, once their common checks are passed.
 
-ghost use Rattle.std.specs.Prelude.{◌≡◌, ◌≤◌, length, Ok};
+ghost use Rattle.std.specs.Prelude.{◌≤◌, length, Ok};
 ghost use Rattle.rules.specs.declared.call.Macro.TheVariants.{Abort as AbortOf, Exit as ExitOf};
 ghost use Rattle.kernel.specs.Views.{seen};
-ghost use Rattle.tasks.specs.Views.{FactorIn};
 ghost use Rattle.kernel.specs.Obeys.{Begins, Obeys};
 
 use crate::effect::{Effect, check};
 use crate::kernel::Kernel;
+use numbers::{Factor, Task};
 use roll::Roll;
 use rules::{Answer, Code};
 use sheet::{Event, Kind, tell};
@@ -17,14 +17,13 @@ impl<R: Roll> Kernel<R> {
     pub(crate) fn begin(
         &mut self,
         task: u8,
-        factor: Option<u8>,
+        factor: Option<Factor>,
         sheet: &mut [Event],
     ) -> Result<Effect, Answer>
-        requires room { 100 ≤ length sheet.old }
-        requires factor { FactorIn factor }
+        requires { 100 ≤ length sheet.old }
         ensures { Begins (seen R.Roll.meaning R.Roll.lever self.old) task factor sheet.old (seen R.Roll.meaning R.Roll.lever self.new) result sheet.new }
     {
-        check(!self.setup.is_registered(task), Code::NotRegistered)?;
+        let number = self.setup.registered(task)?;
         check(!self.tasks.is_released(task), Code::Dormant)?;
         if !self.tasks.has_room(task) {
             let kind = Kind::Missed;
@@ -34,7 +33,7 @@ impl<R: Roll> Kernel<R> {
                 ..Answer::silent(Code::TwoStarts)
             });
         }
-        self.tasks.accept_with(task, factor);
+        self.tasks.accept_with(number, factor);
         let kind = Kind::Accepted;
         tell(sheet, Event { kind, task });
         Ok(Effect::telling(1))
@@ -44,33 +43,31 @@ impl<R: Roll> Kernel<R> {
     pub(crate) fn obey_abort(
         &mut self,
         task: u8,
-        issuer: u8,
+        issuer: Task,
         sheet: &mut [Event],
     ) -> Result<Effect, Answer>
-        requires room { 100 ≤ length sheet.old }
+        requires { 100 ≤ length sheet.old }
         ensures { Obeys (seen R.Roll.meaning R.Roll.lever self.old) issuer (AbortOf task) sheet.old (seen R.Roll.meaning R.Roll.lever self.new) result sheet.new }
     {
-        if !self.setup.is_registered(task) {
+        let Ok(number) = self.setup.registered(task) else {
             return Ok(Effect::quiet());
-        }
-        let told = self.cut(task, sheet);
+        };
+        let told = self.cut(number, sheet);
         Ok(Effect {
-            over: task == issuer,
+            over: task == issuer.get(),
             ..Effect::telling(told)
         })
     }
 
     // The issuer's current start is ended.
-    pub(crate) fn obey_exit(&mut self, issuer: u8, sheet: &mut [Event]) -> Effect
-        requires room { 100 ≤ length sheet.old }
+    pub(crate) fn obey_exit(&mut self, issuer: Task, sheet: &mut [Event]) -> Effect
+        requires { 100 ≤ length sheet.old }
         ensures { Obeys (seen R.Roll.meaning R.Roll.lever self.old) issuer ExitOf sheet.old (seen R.Roll.meaning R.Roll.lever self.new) (Ok result) sheet.new }
     {
-        self.tasks.finish(issuer);
-        let event = Event {
-            kind: Kind::Ended,
-            task: issuer,
-        };
-        tell(sheet, event);
+        let task = issuer.get();
+        self.tasks.finish(task);
+        let kind = Kind::Ended;
+        tell(sheet, Event { kind, task });
         Effect {
             over: true,
             ..Effect::telling(1)

@@ -1,15 +1,16 @@
 //! The macros on timers, wakes and the clock, once their common checks are passed.
 
-ghost use Rattle.std.specs.Prelude.{◌≡◌, ◌<◌, ◌≤◌, not, [], length, filter, if◌then◌else◌, Ok, Err, OnErr, nat_eq};
+ghost use Rattle.std.specs.Prelude.{◌≡◌, ◌<◌, not, [], length, filter, if◌then◌else◌, Ok, Err, OnErr, nat_eq};
 ghost use Rattle.table.specs.declared.selection.Selection.TheVariants.{Set as SetOf};
 ghost use Rattle.table.specs.Rows.{entries};
-ghost use Rattle.rules.specs.declared.answer.Code.TheVariants.{NothingSet as NothingSetOf, TableFull as TableFullOf};
+ghost use Rattle.rules.specs.declared.answer.Code.TheVariants.{NothingSet as NothingSetOf};
 ghost use Rattle.rules.specs.declared.call.Macro.TheVariants.{Delay as DelayOf, Timer as TimerOf, Ctime as CtimeOf, Wake as WakeOf, Cwake as CwakeOf, Stime as StimeOf};
 ghost use Rattle.kernel.specs.Views.{seen};
 ghost use Rattle.kernel.specs.Obeys.{Obeys, Changes};
 
 use crate::effect::{Effect, check};
 use crate::kernel::Kernel;
+use numbers::{Factor, Task};
 use roll::Roll;
 use rules::{Answer, Code};
 use table::entry::TableEntry;
@@ -30,13 +31,11 @@ fn cancel<E: TableEntry>(places: &mut [E::Place], task: u8, factor: u8) -> Resul
 
 impl<R: Roll> Kernel<R> {
     // The issuer sleeps.
-    pub(crate) fn obey_delay(&mut self, t: u32, issuer: u8) -> Result<Effect, Answer>
-        requires { (1 ≤ issuer) × (issuer ≤ 127) }
+    pub(crate) fn obey_delay(&mut self, t: u32, issuer: Task) -> Result<Effect, Answer>
         ensures { Obeys (seen R.Roll.meaning R.Roll.lever self.old) issuer (DelayOf t) [] (seen R.Roll.meaning R.Roll.lever self.new) result [] }
     {
-        let added = row::add::<Timer>(&mut self.timers, Timer::delay(issuer, t));
-        check(!added, Code::TableFull)?;
-        self.tasks.sleep(issuer);
+        row::add::<Timer>(&mut self.timers, Timer::delay(issuer, t)).map_err(|_| Code::TableFull)?;
+        self.tasks.sleep(issuer.get());
         Ok(Effect::quiet())
     }
 
@@ -44,16 +43,16 @@ impl<R: Roll> Kernel<R> {
     pub(crate) fn obey_timer(
         &mut self,
         task: u8,
+        factor: Factor,
         t: u32,
         cycle: u32,
-        factor: u8,
     ) -> Result<Effect, Answer>
-        requires { factor ≤ 16 }
         ensures { Changes (seen R.Roll.meaning R.Roll.lever self.old) (TimerOf task t cycle factor) (seen R.Roll.meaning R.Roll.lever self.new) result }
     {
-        check(!self.setup.is_registered(task), Code::NotRegistered)?;
-        let added = row::add::<Timer>(&mut self.timers, Timer::timer(task, factor, t, cycle));
-        check(!added, Code::TableFull)?;
+        let task = self.setup.registered(task)?;
+        row::add::<Timer>(&mut self.timers, Timer::timer(task, factor, t, cycle)).map_err(
+            |_| Code::TableFull,
+        )?;
         Ok(Effect::quiet())
     }
 
@@ -69,16 +68,16 @@ impl<R: Roll> Kernel<R> {
     pub(crate) fn obey_wake(
         &mut self,
         task: u8,
-        factor: u8,
+        factor: Factor,
         second: u32,
         cycle: u32,
     ) -> Result<Effect, Answer>
-        requires { factor ≤ 16 }
         ensures { Changes (seen R.Roll.meaning R.Roll.lever self.old) (WakeOf task factor second cycle) (seen R.Roll.meaning R.Roll.lever self.new) result }
     {
-        check(!self.setup.is_registered(task), Code::NotRegistered)?;
-        let added = row::add::<Wake>(&mut self.wakes, Wake::waiting(task, factor, second, cycle));
-        check(!added, Code::TableFull)?;
+        let task = self.setup.registered(task)?;
+        row::add::<Wake>(&mut self.wakes, Wake::waiting(task, factor, second, cycle)).map_err(
+            |_| Code::TableFull,
+        )?;
         Ok(Effect::quiet())
     }
 
