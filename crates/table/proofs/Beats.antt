@@ -1,7 +1,5 @@
 -- A loop that beats the places of a row in their order.
 use Rattle.std.proofs.Common.{◌≡◌, ℕ, ◌+◌, ◌<◌, ◌≤◌, Bool, List, [], ◌∷◌, ◌++◌, length, get_or, take, drop, set, Some, None, Option, sym, refl, ap, ◌∙◌, subst, arith}
-pub use Rattle.std.proofs.lemmas.Grind.{flat_map-append as joined_append}
-pub use Rattle.std.proofs.lemmas.List.Sums.{fold-append as folded_append}
 use Rattle.std.specs.List.{flat_map}
 use Rattle.std.proofs.lemmas.Grind.{common_steps, flat_map-append}
 use Rattle.std.proofs.lemmas.List.{take_more_set, drop-set-lt, take_all, get_or-drop, drop-drop, length-set}
@@ -10,6 +8,9 @@ use Rattle.sheet.specs.declared.event.Event.{Event}
 use Rattle.sheet.proofs.Fronts.{Writing, writing_more}
 use Rattle.table.specs.declared.firing.Firing.{Firing}
 use Rattle.table.specs.Rows.{entries, listed, firings, all_fired, all_told}
+-- two lemmas of the library, under the names by which the proofs of the laws cite them
+pub use Rattle.std.proofs.lemmas.Grind.{flat_map-append as joined_append}
+pub use Rattle.std.proofs.lemmas.List.Sums.{fold-append as folded_append}
 
 -- lists that agree from i on agree at i
 same_at : {X : Type 0} (xs ys : List X) (i : ℕ) (d : X) → drop i ys ≡ drop i xs → get_or xs i d ≡ get_or ys i d
