@@ -1,7 +1,7 @@
 -- The walk of `scan::first` finds what `first_of` says.
-use Rattle.std.proofs.Common.{◌≡◌, ℕ, ◌+◌, ◌<◌, Bool, true, false, cond, not, ◌&&◌, ◌≢◌, List, [], ◌∷◌, length, get_or, drop, set, replicate, Some, None, filter, Option, sym, refl, ap, ◌∙◌, inl, inr, arith}
+use Rattle.std.proofs.Common.{◌≡◌, ℕ, ◌<◌, Bool, true, false, cond, not, ◌&&◌, ◌≢◌, List, [], ◌∷◌, length, get_or, set, replicate, Some, None, filter, Option, sym, refl, ap, ◌∙◌, inl, inr, arith}
 use Rattle.std.proofs.lemmas.Bool.{eq-eqb, ne_eqb, cases_eq, cases_lt, cases_Bool}
-use Rattle.std.proofs.lemmas.List.{get_or-set_same, get_or-set_other, length-set, get_or-replicate, length-replicate, get_or_past, at_drop_more}
+use Rattle.std.proofs.lemmas.List.{get_or-set_same, get_or-set_other, length-set, get_or-replicate, length-replicate, get_or_past}
 use Rattle.roll.specs.Tables.{none}
 use Rattle.roll.proofs.Sounds.{good_head, task_range}
 use Rattle.roll.specs.Entries.{cleared, of?, all_good?}
@@ -83,10 +83,3 @@ pub walk_first : (es : List Entry) → all_good? es ≡ true → task_of (walk (
 walk_first es g =
     let h = walk_best es (replicate 128 false) None (length-replicate 128 false) g in
     ap task_of (h ∙ ap (λ l. best (filter (startable none) l)) (unseen_all 128 (fronts es)))
-
--- one step of the loop
-pub walk_more : (seen : List Bool) (b : Option Entry) (es : List Entry) (i : ℕ) (d : Entry) → i < length es → walk seen b (drop i es) ≡ cond (get_or seen (get_or es i d).task false) (walk seen b (drop (i + 1) es)) (walk (set seen (get_or es i d).task true) (taken b (get_or es i d)) (drop (i + 1) es))
-walk_more seen b es i d lt = at_drop_more (walk seen b) es i d lt
-
-pub good_more : (es : List Entry) (i : ℕ) (d : Entry) → i < length es → all_good? (drop i es) ≡ true → ((get_or es i d).task < 128) × (all_good? (drop (i + 1) es) ≡ true)
-good_more es i d lt g = below_head (get_or es i d) (drop (i + 1) es) (sym (at_drop_more all_good? es i d lt) ∙ g)

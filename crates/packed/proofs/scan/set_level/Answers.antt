@@ -1,5 +1,5 @@
-use Rattle.std.proofs.Common.{◌≡◌, ◌<◌, map, length, get_or, take, set, sym, ap, ◌∙◌, arith}
-use Rattle.std.proofs.lemmas.List.{take_all, drop_all, get_or_default, append-nil}
+use Rattle.std.proofs.Common.{◌≡◌, ◌<◌, length, get_or, set, sym, ap, ◌∙◌, arith}
+use Rattle.std.proofs.lemmas.List.{get_or_default}
 use Rattle.std.proofs.lemmas.List.Edits.{map_over_more}
 use Rattle.std.proofs.lemmas.Bool.{eq-eqb, ne_eqb, cond-true, cond-false}
 use Rattle.roll.specs.Entries.{relevel, raised, awake, of?}
@@ -23,13 +23,3 @@ loop-e-preserved c =
       | then-e-task w ↦ let e = cond-true (of? t x) (raised l x) x (eq-eqb x.task t w.if-e-task.true) in w.es-is ∙ ap (set ys i) (sym e) ∙ m
       | else-e-task w ↦ let e = cond-false (of? t x) (raised l x) x (ne_eqb x.task t w.if-e-task.false) in let q : c.if-e-task.es ≡ set ys i x = w.es-is in q ∙ ap (set ys i) (sym e) ∙ m
     ]
-
-pub returns : goal.returns
-returns c =
-    let xs = c.args.es.now in
-    let i = c.loop-e.e-index in
-    let f = relevel c.args.task c.args.level in
-    let a = take_all i xs c.loop-e-test.false in
-    let b = drop_all i xs c.loop-e-test.false in
-    let n = append-nil (map f (take i xs)) in
-    c.loop-e.invariant ∙ rw (b, a, append-nil)

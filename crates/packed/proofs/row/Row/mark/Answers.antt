@@ -5,9 +5,6 @@ use Rattle.roll.specs.declared.entry.Entry.{Entry}
 use Rattle.packed.proofs.RowFacts.{take_set_in}
 use Rattle.packed.proofs.row.Row.mark.Goals as goal
 
-pub offset_bounds-self-i : goal.offset_bounds-self-i
-offset_bounds-self-i c = let h = length-take c.args.self.now.len c.args.self.now.items in let f = c.args.self.now.fits in omega arith
-
 pub returns : goal.returns
 returns c =
     let n = c.args.self.now.len in
