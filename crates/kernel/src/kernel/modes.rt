@@ -1,8 +1,10 @@
 //! The macros that change a task beside its starts, once their common checks are passed.
 
-ghost use Rattle.std.specs.Prelude.{[], if◌then◌else◌, Ok};
+ghost use Rattle.std.specs.Prelude.{◌≡◌, [], if◌then◌else◌, Ok, Err};
 ghost use Rattle.rules.specs.declared.call.Macro.TheVariants.{Rleas as RleasOf, Chap as ChapOf, Sfact as SfactOf, Gfact as GfactOf, Susp as SuspOf, Rsum as RsumOf};
-ghost use Rattle.kernel.specs.Views.{seen};
+ghost use Rattle.rules.specs.declared.answer.Code.TheVariants.{Dormant as DormantOf, NotRegistered as NotRegisteredOf};
+ghost use Rattle.tasks.specs.Views.{view};
+ghost use Rattle.kernel.specs.Views.{registered_by, seen};
 ghost use Rattle.kernel.specs.Obeys.{Obeys, Changes};
 
 use crate::effect::{Effect, check};
@@ -12,6 +14,15 @@ use roll::Roll;
 use rules::{Answer, Code};
 
 impl<R: Roll> Kernel<R> {
+    // The task of this number, if the book has a row for it and it is released.
+    pub(crate) fn released(&self, task: u8) -> Result<Task, Code>
+        ensures { result ≡ (if registered_by self.now.setup task then (if (view R.Roll.meaning self.now.tasks).released task then Ok task else Err DormantOf) else Err NotRegisteredOf) }
+    {
+        let number = self.setup.registered(task)?;
+        check(!self.tasks.is_released(task), Code::Dormant)?;
+        Ok(number)
+    }
+
     // A dormant task is released.
     pub(crate) fn obey_rleas(&mut self, task: u8) -> Result<Effect, Answer>
         ensures { Changes (seen R.Roll.meaning R.Roll.lever self.old) (RleasOf task) (seen R.Roll.meaning R.Roll.lever self.new) result }
@@ -26,8 +37,7 @@ impl<R: Roll> Kernel<R> {
     pub(crate) fn obey_chap(&mut self, task: u8, level: Level) -> Result<Effect, Answer>
         ensures { Changes (seen R.Roll.meaning R.Roll.lever self.old) (ChapOf task level) (seen R.Roll.meaning R.Roll.lever self.new) result }
     {
-        let task = self.setup.registered(task)?;
-        check(!self.tasks.is_released(task.get()), Code::Dormant)?;
+        let task = self.released(task)?;
         self.tasks.set_level(task, level);
         Ok(Effect::quiet())
     }
@@ -36,8 +46,7 @@ impl<R: Roll> Kernel<R> {
     pub(crate) fn obey_sfact(&mut self, task: u8, factor: Factor) -> Result<Effect, Answer>
         ensures { Changes (seen R.Roll.meaning R.Roll.lever self.old) (SfactOf task factor) (seen R.Roll.meaning R.Roll.lever self.new) result }
     {
-        let task = self.setup.registered(task)?;
-        check(!self.tasks.is_released(task.get()), Code::Dormant)?;
+        let task = self.released(task)?;
         check(self.tasks.has_factor(task, factor), Code::FactorSet)?;
         self.tasks.set_factor(task, factor);
         Ok(Effect::quiet())

@@ -5,7 +5,7 @@ ghost use Rattle.rules.specs.declared.call.Macro.TheVariants.{Abort as AbortOf, 
 ghost use Rattle.kernel.specs.Views.{seen};
 ghost use Rattle.kernel.specs.Obeys.{Begins, Obeys};
 
-use crate::effect::{Effect, check};
+use crate::effect::Effect;
 use crate::kernel::Kernel;
 use numbers::{Factor, Task};
 use roll::Roll;
@@ -23,8 +23,7 @@ impl<R: Roll> Kernel<R> {
         requires { 100 ≤ length sheet.old }
         ensures { Begins (seen R.Roll.meaning R.Roll.lever self.old) task factor sheet.old (seen R.Roll.meaning R.Roll.lever self.new) result sheet.new }
     {
-        let number = self.setup.registered(task)?;
-        check(!self.tasks.is_released(task), Code::Dormant)?;
+        let number = self.released(task)?;
         if !self.tasks.has_room(task) {
             let kind = Kind::Missed;
             tell(sheet, Event { kind, task });
