@@ -33,6 +33,7 @@ pub fn drive<R: Roll>(
 {
     let mut live = cold.power_up(book);
     let made = calls.len().min(answers.len());
+    // By the index: no clause says what a loop over `answers.iter_mut()` and the calls side by side has written.
     for i in 0..made {
         answers[i] = live.perform(calls[i], sheet);
     }
