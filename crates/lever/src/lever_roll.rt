@@ -19,7 +19,7 @@ pub struct Lever<R> {
 impl<R: Roll> Lever<R> {
     // Puts a lever over the roll, which loses its entries and its holds.
     pub fn new(mut roll: R) -> Lever<R>
-        ensures { over R.Roll.lever (R.Roll.meaning result.below) result.own ≡ empty }
+        ensures { over R.Roll.LEVER (R.Roll.meaning result.below) result.own ≡ empty }
     {
         clear_all(&mut roll);
         Lever {
@@ -30,17 +30,13 @@ impl<R: Roll> Lever<R> {
 }
 
 impl<R: Roll> Roll for Lever<R> {
-    ghost meaning = { λ s. over R.Roll.lever (R.Roll.meaning s.below) s.own };
+    ghost meaning = { λ s. over R.Roll.LEVER (R.Roll.meaning s.below) s.own };
 
     const LEVER: bool = true;
 
     ghost LEVER = { true };
 
-    ghost lever = { true };
-
-    ghost sound = { λ s. over_sound R.Roll.lever (R.Roll.meaning s.below) s.own (R.Roll.sound s.below) };
-
-    ghost tied = { refl };
+    ghost sound = { λ s. over_sound R.Roll.LEVER (R.Roll.meaning s.below) s.own (R.Roll.sound s.below) };
 
     ghost free = { Prim.search rules };
 

@@ -11,7 +11,7 @@ use roll::Roll;
 // Which task has the processor where some are held: while the roll answers a held
 // task, that one is put to sleep and the roll asked again. In the end exactly these are roused.
 pub(crate) fn first<R: Roll>(roll: &mut R, held: &Holds) -> Option<u8>
-    requires { R.Roll.lever ≡ false }
+    requires { R.Roll.LEVER ≡ false }
     ensures answer { result ≡ first_of (members held.now) (R.Roll.meaning roll.old).entries }
     ensures after { R.Roll.meaning roll.new ≡ R.Roll.meaning roll.old }
 {

@@ -18,12 +18,10 @@ pub use ranges::{in_range, is_level, is_task, verdict};
 pub trait Roll {
     ghost meaning: { Self → Model };
 
-    // Whether there is a lever: for code, and under both names for clauses, which call it `lever`.
+    // Whether there is a lever: for code, and under the same name for clauses.
     const LEVER: bool;
 
     ghost LEVER: { Bool };
-
-    ghost lever: { Bool };
 
     // Puts an awake entry at the end. Refused where the task has two.
     fn add(&mut self, task: u8, level: u8) -> Result<(), Refused>
@@ -71,17 +69,15 @@ pub trait Roll {
 
     // Holds the task. Refused where it is held, or where there is no lever.
     fn hold(&mut self, task: u8) -> Result<(), Refused>
-        ensures answer { result ≡ verdict (may_hold lever task (meaning self.old)) }
-        ensures after { meaning self.new ≡ after_hold lever task (meaning self.old) };
+        ensures answer { result ≡ verdict (may_hold LEVER task (meaning self.old)) }
+        ensures after { meaning self.new ≡ after_hold LEVER task (meaning self.old) };
 
     // Ends the hold of the task. Refused where it is not held, or where there is no lever.
     fn unhold(&mut self, task: u8) -> Result<(), Refused>
-        ensures answer { result ≡ verdict (may_unhold lever task (meaning self.old)) }
-        ensures after { meaning self.new ≡ after_unhold lever task (meaning self.old) };
+        ensures answer { result ≡ verdict (may_unhold LEVER task (meaning self.old)) }
+        ensures after { meaning self.new ≡ after_unhold LEVER task (meaning self.old) };
 
     ghost sound: { (s : Self) → Sound (meaning s) };
 
-    ghost tied: { lever ≡ LEVER };
-
-    ghost free: { (s : Self) → lever ≡ false → (meaning s).held ≡ none };
+    ghost free: { (s : Self) → LEVER ≡ false → (meaning s).held ≡ none };
 }

@@ -27,8 +27,8 @@ fn take_step<R: Roll, S: Sink>(
     sheet: &mut [Event; LEAST_SHEET],
     out: &mut BufferedSink<'_, S>,
 ) -> Result<(), S::Error>
-    ensures progress { OnOk result (progress_in R.Roll.meaning R.Roll.lever scripted.new ≡ (stepped book.entry.bytes.now (progress_in R.Roll.meaning R.Roll.lever scripted.old)).progress) }
-    ensures lines { OnOk result (Took S.Sink.state S.Sink.took out.old (lines_of_events step (stepped book.entry.bytes.now (progress_in R.Roll.meaning R.Roll.lever scripted.old)).told) out.new) }
+    ensures progress { OnOk result (progress_in R.Roll.meaning R.Roll.LEVER scripted.new ≡ (stepped book.entry.bytes.now (progress_in R.Roll.meaning R.Roll.LEVER scripted.old)).progress) }
+    ensures lines { OnOk result (Took S.Sink.state S.Sink.took out.old (lines_of_events step (stepped book.entry.bytes.now (progress_in R.Roll.meaning R.Roll.LEVER scripted.old)).told) out.new) }
 {
     out.add_events(step, scripted.do_row(book, sheet))?;
     out.add_events(step, scripted.do_tick(sheet))
@@ -41,9 +41,9 @@ fn take_steps<R: Roll, S: Sink>(
     book: Book<'_>,
     out: &mut BufferedSink<'_, S>,
 ) -> Result<(), S::Error>
-    requires { progress_in R.Roll.meaning R.Roll.lever scripted.old ≡ powered_up R.Roll.lever book.bytes.now }
-    ensures progress { OnOk result (progress_in R.Roll.meaning R.Roll.lever scripted.new ≡ progress_after R.Roll.lever book.entry.bytes.now (steps_in book.entry.bytes.now)) }
-    ensures lines { OnOk result (Took S.Sink.state S.Sink.took out.old (step_lines R.Roll.lever book.entry.bytes.now (steps_in book.entry.bytes.now)) out.new) }
+    requires { progress_in R.Roll.meaning R.Roll.LEVER scripted.old ≡ powered_up R.Roll.LEVER book.bytes.now }
+    ensures progress { OnOk result (progress_in R.Roll.meaning R.Roll.LEVER scripted.new ≡ progress_after R.Roll.LEVER book.entry.bytes.now (steps_in book.entry.bytes.now)) }
+    ensures lines { OnOk result (Took S.Sink.state S.Sink.took out.old (step_lines R.Roll.LEVER book.entry.bytes.now (steps_in book.entry.bytes.now)) out.new) }
 {
     let blank = Event {
         kind: Kind::Runs,
@@ -62,7 +62,7 @@ fn carry_out<R: Roll + Drop, S: Sink>(
     book: Book<'_>,
     out: &mut BufferedSink<'_, S>,
 ) -> Result<(), S::Error>
-    ensures { OnOk result (Took S.Sink.state S.Sink.took out.old (run_lines R.Roll.lever book.entry.bytes.now) out.new) }
+    ensures { OnOk result (Took S.Sink.state S.Sink.took out.old (run_lines R.Roll.LEVER book.entry.bytes.now) out.new) }
 {
     let accepted = Event {
         kind: Kind::Accepted,
@@ -87,7 +87,7 @@ fn write_listing<R: Roll + Drop, S: Sink>(
     bytes: &[u8],
     out: &mut BufferedSink<'_, S>,
 ) -> Result<(), S::Error>
-    ensures { OnOk result (Took S.Sink.state S.Sink.took out.old (listing R.Roll.lever bytes.now) out.new) }
+    ensures { OnOk result (Took S.Sink.state S.Sink.took out.old (listing R.Roll.LEVER bytes.now) out.new) }
 {
     match Book::read(bytes) {
         Ok(book) => carry_out(roll, book, out),
@@ -100,8 +100,8 @@ fn write_listing<R: Roll + Drop, S: Sink>(
 /// lines of a book tell is a history of calls from power-up on, of which the laws hold after every step.
 #[tactic(auto, using(crate::proofs::Lasting::lived))]
 pub fn run<R: Roll + Drop, S: Sink>(roll: R, bytes: &[u8], sink: &mut S) -> Result<(), S::Error>
-    ensures lives { Lives R.Roll.lever bytes.now }
-    ensures listing { OnOk result (S.Sink.state sink.new ≡ S.Sink.took (S.Sink.state sink.old) (listing R.Roll.lever bytes.now)) }
+    ensures lives { Lives R.Roll.LEVER bytes.now }
+    ensures listing { OnOk result (S.Sink.state sink.new ≡ S.Sink.took (S.Sink.state sink.old) (listing R.Roll.LEVER bytes.now)) }
 {
     let mut out = BufferedSink::new(sink);
     write_listing(roll, bytes, &mut out)?;

@@ -25,9 +25,9 @@ impl<R: Roll> Cold<R> {
 
     // Powers the station up with a book. Its two events, accepted 1 and runs 1, are fixed and are written nowhere.
     pub fn power_up(self, book: Book<'_>) -> Live<R>
-        ensures state { seen R.Roll.meaning R.Roll.lever result ≡ record { setup = setup_in R.Roll.lever book.entry.bytes.now; state = started (setup_in R.Roll.lever book.entry.bytes.now) } }
-        ensures reached { Reached (seen R.Roll.meaning R.Roll.lever result).setup powered (seen R.Roll.meaning R.Roll.lever result).state }
-        ensures laws { Laws (seen R.Roll.meaning R.Roll.lever result).setup powered (seen R.Roll.meaning R.Roll.lever result).state }
+        ensures state { seen R.Roll.meaning R.Roll.LEVER result ≡ record { setup = setup_in R.Roll.LEVER book.entry.bytes.now; state = started (setup_in R.Roll.LEVER book.entry.bytes.now) } }
+        ensures reached { Reached (seen R.Roll.meaning R.Roll.LEVER result).setup powered (seen R.Roll.meaning R.Roll.LEVER result).state }
+        ensures laws { Laws (seen R.Roll.meaning R.Roll.LEVER result).setup powered (seen R.Roll.meaning R.Roll.LEVER result).state }
     {
         let Cold { roll } = self;
         Live::over(Kernel::powered(roll, book))

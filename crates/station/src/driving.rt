@@ -27,8 +27,8 @@ pub fn drive<R: Roll>(
     answers: &mut [Answer],
 ) -> Driven<R>
     ensures made { result.made ≡ min (length calls.now) (length answers.old) }
-    ensures setup { (seen R.Roll.meaning R.Roll.lever result.live).setup ≡ setup_in R.Roll.lever book.entry.bytes.now }
-    ensures ran { Ran (setup_in R.Roll.lever book.entry.bytes.now) (take result.made calls.now) (take result.made answers.new) (seen R.Roll.meaning R.Roll.lever result.live).state }
+    ensures setup { (seen R.Roll.meaning R.Roll.LEVER result.live).setup ≡ setup_in R.Roll.LEVER book.entry.bytes.now }
+    ensures ran { Ran (setup_in R.Roll.LEVER book.entry.bytes.now) (take result.made calls.now) (take result.made answers.new) (seen R.Roll.meaning R.Roll.LEVER result.live).state }
     ensures rest { drop result.made answers.new ≡ drop result.made answers.old }
 {
     let mut live = cold.power_up(book);

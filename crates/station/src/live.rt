@@ -24,9 +24,9 @@ impl<R: Roll> Live<R> {
 
     // The task with the processor, if there is one: the one that the last `runs` named.
     pub fn first(&mut self) -> Option<Task>
-        ensures answer { result ≡ first_in (seen R.Roll.meaning R.Roll.lever self.old).state.tasks.roll }
-        ensures same { seen R.Roll.meaning R.Roll.lever self.new ≡ seen R.Roll.meaning R.Roll.lever self.old }
-        ensures named { Named (seen R.Roll.meaning R.Roll.lever self.old).setup (seen R.Roll.meaning R.Roll.lever self.old).state result }
+        ensures answer { result ≡ first_in (seen R.Roll.meaning R.Roll.LEVER self.old).state.tasks.roll }
+        ensures same { seen R.Roll.meaning R.Roll.LEVER self.new ≡ seen R.Roll.meaning R.Roll.LEVER self.old }
+        ensures named { Named (seen R.Roll.meaning R.Roll.LEVER self.old).setup (seen R.Roll.meaning R.Roll.LEVER self.old).state result }
     {
         self.kernel.first()
     }
@@ -35,7 +35,7 @@ impl<R: Roll> Live<R> {
     pub fn stop(self) -> u8
     where
         R: Drop,
-        ensures { result ≡ length (seen R.Roll.meaning R.Roll.lever self).state.tasks.roll.entries }
+        ensures { result ≡ length (seen R.Roll.meaning R.Roll.LEVER self).state.tasks.roll.entries }
     {
         let Live { kernel } = self;
         kernel.stop()

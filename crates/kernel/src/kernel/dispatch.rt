@@ -21,7 +21,7 @@ impl<R: Roll> Kernel<R> {
     // A macro with a field out of range: the issuer's starts are cut, as by an abort.
     fn cut_issuer(&mut self, issuer: Task, sheet: &mut [Event]) -> Effect
         requires { 100 ≤ length sheet.old }
-        ensures { Did FieldRangeOf (cutting (seen R.Roll.meaning R.Roll.lever self.old).setup (seen R.Roll.meaning R.Roll.lever self.old).state issuer issuer) (seen R.Roll.meaning R.Roll.lever self.old) sheet.old (seen R.Roll.meaning R.Roll.lever self.new) result sheet.new }
+        ensures { Did FieldRangeOf (cutting (seen R.Roll.meaning R.Roll.LEVER self.old).setup (seen R.Roll.meaning R.Roll.LEVER self.old).state issuer issuer) (seen R.Roll.meaning R.Roll.LEVER self.old) sheet.old (seen R.Roll.meaning R.Roll.LEVER self.new) result sheet.new }
     {
         let told = self.cut(issuer, sheet);
         Effect {
@@ -37,7 +37,7 @@ impl<R: Roll> Kernel<R> {
     fn obey(&mut self, m: Macro, issuer: Task, sheet: &mut [Event]) -> Result<Effect, Answer>
         requires fields { in_range m ≡ true }
         requires room { 100 ≤ length sheet.old }
-        ensures { Obeys (seen R.Roll.meaning R.Roll.lever self.old) issuer m sheet.old (seen R.Roll.meaning R.Roll.lever self.new) result sheet.new }
+        ensures { Obeys (seen R.Roll.meaning R.Roll.LEVER self.old) issuer m sheet.old (seen R.Roll.meaning R.Roll.LEVER self.new) result sheet.new }
     {
         match m {
             Macro::Rleas { task } => self.obey_rleas(task),
@@ -71,8 +71,8 @@ impl<R: Roll> Kernel<R> {
     // A macro of the task that has the processor, if one has it.
     fn issue(&mut self, m: Macro, was: Option<&Task>, sheet: &mut [Event]) -> Result<Effect, Answer>
         requires room { 100 ≤ length sheet.old }
-        requires was { option_copied was ≡ first_in (seen R.Roll.meaning R.Roll.lever self.old).state.tasks.roll }
-        ensures { Works (seen R.Roll.meaning R.Roll.lever self.old) (MacroOf m) sheet.old (seen R.Roll.meaning R.Roll.lever self.new) result sheet.new }
+        requires was { option_copied was ≡ first_in (seen R.Roll.meaning R.Roll.LEVER self.old).state.tasks.roll }
+        ensures { Works (seen R.Roll.meaning R.Roll.LEVER self.old) (MacroOf m) sheet.old (seen R.Roll.meaning R.Roll.LEVER self.new) result sheet.new }
     {
         let issuer = *was.ok_or(Code::Idle)?;
         if !m.is_in_range() {
@@ -89,8 +89,8 @@ impl<R: Roll> Kernel<R> {
         sheet: &mut [Event],
     ) -> Result<Effect, Answer>
         requires room { 100 ≤ length sheet.old }
-        requires was { option_copied was ≡ first_in (seen R.Roll.meaning R.Roll.lever self.old).state.tasks.roll }
-        ensures { Works (seen R.Roll.meaning R.Roll.lever self.old) call sheet.old (seen R.Roll.meaning R.Roll.lever self.new) result sheet.new }
+        requires was { option_copied was ≡ first_in (seen R.Roll.meaning R.Roll.LEVER self.old).state.tasks.roll }
+        ensures { Works (seen R.Roll.meaning R.Roll.LEVER self.old) call sheet.old (seen R.Roll.meaning R.Roll.LEVER self.new) result sheet.new }
     {
         match call {
             Call::Macro(m) => self.issue(m, was, sheet),
@@ -104,7 +104,7 @@ impl<R: Roll> Kernel<R> {
 
     // What any call does.
     pub fn carry_out(&mut self, call: Call, sheet: &mut [Event]) -> Answer
-        ensures { Performed (seen R.Roll.meaning R.Roll.lever self.old) call sheet.old (seen R.Roll.meaning R.Roll.lever self.new) result sheet.new }
+        ensures { Performed (seen R.Roll.meaning R.Roll.LEVER self.old) call sheet.old (seen R.Roll.meaning R.Roll.LEVER self.new) result sheet.new }
     {
         if sheet.len() < LEAST_SHEET {
             return Answer::silent(Code::ShortSheet);

@@ -22,11 +22,11 @@ impl<R: Roll> Kernel<R> {
     // many there were.
     pub(crate) fn cut(&mut self, task: Task, sheet: &mut [Event]) -> usize
         requires { 2 ≤ length sheet.old }
-        ensures setup { (seen R.Roll.meaning R.Roll.lever self.new).setup ≡ (seen R.Roll.meaning R.Roll.lever self.old).setup }
-        ensures state { (seen R.Roll.meaning R.Roll.lever self.new).state ≡ (cutting (seen R.Roll.meaning R.Roll.lever self.old).setup (seen R.Roll.meaning R.Roll.lever self.old).state task task).state }
-        ensures count { result ≡ length (cut_events (seen R.Roll.meaning R.Roll.lever self.old).state.tasks task) }
+        ensures setup { (seen R.Roll.meaning R.Roll.LEVER self.new).setup ≡ (seen R.Roll.meaning R.Roll.LEVER self.old).setup }
+        ensures state { (seen R.Roll.meaning R.Roll.LEVER self.new).state ≡ (cutting (seen R.Roll.meaning R.Roll.LEVER self.old).setup (seen R.Roll.meaning R.Roll.LEVER self.old).state task task).state }
+        ensures count { result ≡ length (cut_events (seen R.Roll.meaning R.Roll.LEVER self.old).state.tasks task) }
         ensures bound { result ≤ 2 }
-        ensures sheet { sheet.new ≡ written (cut_events (seen R.Roll.meaning R.Roll.lever self.old).state.tasks task) sheet.old }
+        ensures sheet { sheet.new ≡ written (cut_events (seen R.Roll.meaning R.Roll.LEVER self.old).state.tasks task) sheet.old }
     {
         let number = task.get();
         let level = self.setup.level(task);
@@ -44,11 +44,11 @@ impl<R: Roll> Kernel<R> {
     // those of the timers. Answers how many events were told.
     pub(crate) fn beat(&mut self, sheet: &mut [Event]) -> usize
         requires { 96 ≤ length sheet.old }
-        ensures setup { (seen R.Roll.meaning R.Roll.lever self.new).setup ≡ (seen R.Roll.meaning R.Roll.lever self.old).setup }
-        ensures state { (seen R.Roll.meaning R.Roll.lever self.new).state ≡ ticked (seen R.Roll.meaning R.Roll.lever self.old).state }
-        ensures count { result ≡ length (tick_events (seen R.Roll.meaning R.Roll.lever self.old).state) }
+        ensures setup { (seen R.Roll.meaning R.Roll.LEVER self.new).setup ≡ (seen R.Roll.meaning R.Roll.LEVER self.old).setup }
+        ensures state { (seen R.Roll.meaning R.Roll.LEVER self.new).state ≡ ticked (seen R.Roll.meaning R.Roll.LEVER self.old).state }
+        ensures count { result ≡ length (tick_events (seen R.Roll.meaning R.Roll.LEVER self.old).state) }
         ensures bound { result ≤ 96 }
-        ensures sheet { sheet.new ≡ written (tick_events (seen R.Roll.meaning R.Roll.lever self.old).state) sheet.old }
+        ensures sheet { sheet.new ≡ written (tick_events (seen R.Roll.meaning R.Roll.LEVER self.old).state) sheet.old }
     {
         let second = self.clock.advance();
         let told = row::beat::<Timer, TaskTable<R>>(&mut self.timers, (), &mut self.tasks, sheet);

@@ -11,8 +11,8 @@ use roll::Roll;
 impl<R: Roll> Kernel<R> {
     // The task with the processor, if there is one.
     pub fn first(&mut self) -> Option<Task>
-        ensures answer { result ≡ first_in (seen R.Roll.meaning R.Roll.lever self.old).state.tasks.roll }
-        ensures same { seen R.Roll.meaning R.Roll.lever self.new ≡ seen R.Roll.meaning R.Roll.lever self.old }
+        ensures answer { result ≡ first_in (seen R.Roll.meaning R.Roll.LEVER self.old).state.tasks.roll }
+        ensures same { seen R.Roll.meaning R.Roll.LEVER self.new ≡ seen R.Roll.meaning R.Roll.LEVER self.old }
     {
         self.tasks.first()
     }

@@ -25,7 +25,7 @@ impl<R: Roll> Kernel<R> {
 
     // A dormant task is released.
     pub(crate) fn obey_rleas(&mut self, task: u8) -> Result<Effect, Answer>
-        ensures { Changes (seen R.Roll.meaning R.Roll.lever self.old) (RleasOf task) (seen R.Roll.meaning R.Roll.lever self.new) result }
+        ensures { Changes (seen R.Roll.meaning R.Roll.LEVER self.old) (RleasOf task) (seen R.Roll.meaning R.Roll.LEVER self.new) result }
     {
         let task = self.setup.registered(task)?;
         check(self.tasks.is_released(task.get()), Code::IsReleased)?;
@@ -35,7 +35,7 @@ impl<R: Roll> Kernel<R> {
 
     // The present level of a task changes.
     pub(crate) fn obey_chap(&mut self, task: u8, level: Level) -> Result<Effect, Answer>
-        ensures { Changes (seen R.Roll.meaning R.Roll.lever self.old) (ChapOf task level) (seen R.Roll.meaning R.Roll.lever self.new) result }
+        ensures { Changes (seen R.Roll.meaning R.Roll.LEVER self.old) (ChapOf task level) (seen R.Roll.meaning R.Roll.LEVER self.new) result }
     {
         let task = self.released(task)?;
         self.tasks.set_level(task, level);
@@ -44,7 +44,7 @@ impl<R: Roll> Kernel<R> {
 
     // A factor of a task is set.
     pub(crate) fn obey_sfact(&mut self, task: u8, factor: Factor) -> Result<Effect, Answer>
-        ensures { Changes (seen R.Roll.meaning R.Roll.lever self.old) (SfactOf task factor) (seen R.Roll.meaning R.Roll.lever self.new) result }
+        ensures { Changes (seen R.Roll.meaning R.Roll.LEVER self.old) (SfactOf task factor) (seen R.Roll.meaning R.Roll.LEVER self.new) result }
     {
         let task = self.released(task)?;
         check(self.tasks.has_factor(task, factor), Code::FactorSet)?;
@@ -54,7 +54,7 @@ impl<R: Roll> Kernel<R> {
 
     // The issuer's smallest factor is taken; 0 is answered where none is set.
     pub(crate) fn obey_gfact(&mut self, issuer: Task) -> Effect
-        ensures { Obeys (seen R.Roll.meaning R.Roll.lever self.old) issuer GfactOf [] (seen R.Roll.meaning R.Roll.lever self.new) (Ok result) [] }
+        ensures { Obeys (seen R.Roll.meaning R.Roll.LEVER self.old) issuer GfactOf [] (seen R.Roll.meaning R.Roll.LEVER self.new) (Ok result) [] }
     {
         let factor = self.tasks.take_factor(issuer).map_or(0, Bounded::get);
         Effect {
@@ -68,7 +68,7 @@ impl<R: Roll> Kernel<R> {
 
     // A task is held, or its hold ends.
     pub(crate) fn obey_hold(&mut self, task: u8, held: bool) -> Result<Effect, Answer>
-        ensures { Changes (seen R.Roll.meaning R.Roll.lever self.old) (if held then SuspOf task else RsumOf task) (seen R.Roll.meaning R.Roll.lever self.new) result }
+        ensures { Changes (seen R.Roll.meaning R.Roll.LEVER self.old) (if held then SuspOf task else RsumOf task) (seen R.Roll.meaning R.Roll.LEVER self.new) result }
     {
         let task = self.setup.registered(task)?;
         check(!R::LEVER, Code::NoLever)?;

@@ -19,7 +19,7 @@ impl<R: Roll> Kernel<R> {
     // A kernel just powered up with a book: its roll is emptied with its holds, nothing is set, and task 1 alone is
     // released, with one start.
     pub fn powered(roll: R, book: Book<'_>) -> Kernel<R>
-        ensures { seen R.Roll.meaning R.Roll.lever result ≡ record { setup = setup_in R.Roll.lever book.entry.bytes.now; state = started (setup_in R.Roll.lever book.entry.bytes.now) } }
+        ensures { seen R.Roll.meaning R.Roll.LEVER result ≡ record { setup = setup_in R.Roll.LEVER book.entry.bytes.now; state = started (setup_in R.Roll.LEVER book.entry.bytes.now) } }
     {
         let setup = Setup::of(book);
         let levels = setup.levels();
@@ -36,7 +36,7 @@ impl<R: Roll> Kernel<R> {
     pub fn stop(self) -> u8
     where
         R: Drop,
-        ensures { result ≡ length (seen R.Roll.meaning R.Roll.lever self).state.tasks.roll.entries }
+        ensures { result ≡ length (seen R.Roll.meaning R.Roll.LEVER self).state.tasks.roll.entries }
     {
         let Kernel {
             setup: _,

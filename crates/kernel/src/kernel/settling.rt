@@ -24,9 +24,9 @@ impl<R: Roll> Kernel<R> {
         sheet: &mut [Event],
     ) -> Answer
         requires { effect.answer.told < length sheet.old }
-        ensures same { seen R.Roll.meaning R.Roll.lever self.new ≡ seen R.Roll.meaning R.Roll.lever self.old }
-        ensures answer { result ≡ record { code = effect.answer.code; told = effect.answer.told + length (turn (numbered was) effect.over (running (seen R.Roll.meaning R.Roll.lever self.old).state.tasks)); factor = effect.answer.factor } }
-        ensures sheet { (front given : List Event) → effect.answer.told ≡ length front → sheet.old ≡ written front given → sheet.new ≡ written (front ++ turn (numbered was) effect.over (running (seen R.Roll.meaning R.Roll.lever self.old).state.tasks)) given }
+        ensures same { seen R.Roll.meaning R.Roll.LEVER self.new ≡ seen R.Roll.meaning R.Roll.LEVER self.old }
+        ensures answer { result ≡ record { code = effect.answer.code; told = effect.answer.told + length (turn (numbered was) effect.over (running (seen R.Roll.meaning R.Roll.LEVER self.old).state.tasks)); factor = effect.answer.factor } }
+        ensures sheet { (front given : List Event) → effect.answer.told ≡ length front → sheet.old ≡ written front given → sheet.new ≡ written (front ++ turn (numbered was) effect.over (running (seen R.Roll.meaning R.Roll.LEVER self.old).state.tasks)) given }
     {
         let Effect { answer, over } = effect;
         let turn = self.tasks.tell_turn(was, over, &mut sheet[answer.told..]);

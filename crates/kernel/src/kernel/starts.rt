@@ -21,7 +21,7 @@ impl<R: Roll> Kernel<R> {
         sheet: &mut [Event],
     ) -> Result<Effect, Answer>
         requires { 100 ≤ length sheet.old }
-        ensures { Begins (seen R.Roll.meaning R.Roll.lever self.old) task factor sheet.old (seen R.Roll.meaning R.Roll.lever self.new) result sheet.new }
+        ensures { Begins (seen R.Roll.meaning R.Roll.LEVER self.old) task factor sheet.old (seen R.Roll.meaning R.Roll.LEVER self.new) result sheet.new }
     {
         let number = self.released(task)?;
         if !self.tasks.has_room(task) {
@@ -46,7 +46,7 @@ impl<R: Roll> Kernel<R> {
         sheet: &mut [Event],
     ) -> Result<Effect, Answer>
         requires { 100 ≤ length sheet.old }
-        ensures { Obeys (seen R.Roll.meaning R.Roll.lever self.old) issuer (AbortOf task) sheet.old (seen R.Roll.meaning R.Roll.lever self.new) result sheet.new }
+        ensures { Obeys (seen R.Roll.meaning R.Roll.LEVER self.old) issuer (AbortOf task) sheet.old (seen R.Roll.meaning R.Roll.LEVER self.new) result sheet.new }
     {
         let Ok(number) = self.setup.registered(task) else {
             return Ok(Effect::quiet());
@@ -61,7 +61,7 @@ impl<R: Roll> Kernel<R> {
     // The issuer's current start is ended.
     pub(crate) fn obey_exit(&mut self, issuer: Task, sheet: &mut [Event]) -> Effect
         requires { 100 ≤ length sheet.old }
-        ensures { Obeys (seen R.Roll.meaning R.Roll.lever self.old) issuer ExitOf sheet.old (seen R.Roll.meaning R.Roll.lever self.new) (Ok result) sheet.new }
+        ensures { Obeys (seen R.Roll.meaning R.Roll.LEVER self.old) issuer ExitOf sheet.old (seen R.Roll.meaning R.Roll.LEVER self.new) (Ok result) sheet.new }
     {
         let task = issuer.get();
         self.tasks.finish(task);

@@ -32,7 +32,7 @@ fn cancel<E: TableEntry>(places: &mut [E::Place], task: u8, factor: u8) -> Resul
 impl<R: Roll> Kernel<R> {
     // The issuer sleeps.
     pub(crate) fn obey_delay(&mut self, t: u32, issuer: Task) -> Result<Effect, Answer>
-        ensures { Obeys (seen R.Roll.meaning R.Roll.lever self.old) issuer (DelayOf t) [] (seen R.Roll.meaning R.Roll.lever self.new) result [] }
+        ensures { Obeys (seen R.Roll.meaning R.Roll.LEVER self.old) issuer (DelayOf t) [] (seen R.Roll.meaning R.Roll.LEVER self.new) result [] }
     {
         row::add::<Timer>(&mut self.timers, Timer::delay(issuer, t)).map_err(|_| Code::TableFull)?;
         self.tasks.sleep(issuer.get());
@@ -47,7 +47,7 @@ impl<R: Roll> Kernel<R> {
         t: u32,
         cycle: u32,
     ) -> Result<Effect, Answer>
-        ensures { Changes (seen R.Roll.meaning R.Roll.lever self.old) (TimerOf task t cycle factor) (seen R.Roll.meaning R.Roll.lever self.new) result }
+        ensures { Changes (seen R.Roll.meaning R.Roll.LEVER self.old) (TimerOf task t cycle factor) (seen R.Roll.meaning R.Roll.LEVER self.new) result }
     {
         let task = self.setup.registered(task)?;
         row::add::<Timer>(&mut self.timers, Timer::timer(task, factor, t, cycle)).map_err(
@@ -58,7 +58,7 @@ impl<R: Roll> Kernel<R> {
 
     // All timers of a task and a factor go.
     pub(crate) fn obey_ctime(&mut self, task: u8, factor: u8) -> Result<Effect, Answer>
-        ensures { Changes (seen R.Roll.meaning R.Roll.lever self.old) (CtimeOf task factor) (seen R.Roll.meaning R.Roll.lever self.new) result }
+        ensures { Changes (seen R.Roll.meaning R.Roll.LEVER self.old) (CtimeOf task factor) (seen R.Roll.meaning R.Roll.LEVER self.new) result }
     {
         cancel::<Timer>(&mut self.timers, task, factor)?;
         Ok(Effect::quiet())
@@ -72,7 +72,7 @@ impl<R: Roll> Kernel<R> {
         second: u32,
         cycle: u32,
     ) -> Result<Effect, Answer>
-        ensures { Changes (seen R.Roll.meaning R.Roll.lever self.old) (WakeOf task factor second cycle) (seen R.Roll.meaning R.Roll.lever self.new) result }
+        ensures { Changes (seen R.Roll.meaning R.Roll.LEVER self.old) (WakeOf task factor second cycle) (seen R.Roll.meaning R.Roll.LEVER self.new) result }
     {
         let task = self.setup.registered(task)?;
         row::add::<Wake>(&mut self.wakes, Wake::waiting(task, factor, second, cycle)).map_err(
@@ -83,7 +83,7 @@ impl<R: Roll> Kernel<R> {
 
     // All wakes of a task and a factor go.
     pub(crate) fn obey_cwake(&mut self, task: u8, factor: u8) -> Result<Effect, Answer>
-        ensures { Changes (seen R.Roll.meaning R.Roll.lever self.old) (CwakeOf task factor) (seen R.Roll.meaning R.Roll.lever self.new) result }
+        ensures { Changes (seen R.Roll.meaning R.Roll.LEVER self.old) (CwakeOf task factor) (seen R.Roll.meaning R.Roll.LEVER self.new) result }
     {
         cancel::<Wake>(&mut self.wakes, task, factor)?;
         Ok(Effect::quiet())
@@ -92,7 +92,7 @@ impl<R: Roll> Kernel<R> {
     // The clock moves to the beginning of a second.
     pub(crate) fn obey_stime(&mut self, second: u32) -> Effect
         requires { second < 86400 }
-        ensures { Changes (seen R.Roll.meaning R.Roll.lever self.old) (StimeOf second) (seen R.Roll.meaning R.Roll.lever self.new) (Ok result) }
+        ensures { Changes (seen R.Roll.meaning R.Roll.LEVER self.old) (StimeOf second) (seen R.Roll.meaning R.Roll.LEVER self.new) (Ok result) }
     {
         self.clock.set(second);
         Effect::quiet()

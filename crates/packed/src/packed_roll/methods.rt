@@ -38,11 +38,7 @@ impl Roll for Packed {
 
     ghost LEVER = { false };
 
-    ghost lever = { false };
-
     ghost sound = { first_of (Prim.search rules, Prim.grind (arith, Self.row.coded.inj)) };
-
-    ghost tied = { refl };
 
     ghost free = { first_of (Prim.search rules, Prim.grind (arith, Self.row.coded.inj)) };
 

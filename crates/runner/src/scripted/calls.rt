@@ -1,10 +1,11 @@
 //! The calls that a script makes of its station.
 
-ghost use Rattle.std.specs.Prelude.{◌≡◌, ◌≤◌, IfSome};
+ghost use Rattle.std.specs.Prelude.{◌≡◌};
 ghost use Rattle.rules.specs.State.{numbered};
 ghost use Rattle.runner.specs.Scripts.{asked, after, processor};
 ghost use Rattle.runner.specs.Views.{station_in};
 
+use numbers::Task;
 use roll::Roll;
 use rules::{Call, LEAST_SHEET};
 use sheet::Event;
@@ -23,9 +24,9 @@ pub(super) fn ask<'s, R: Roll>(
     call: Call,
     sheet: &'s mut [Event; LEAST_SHEET],
 ) -> Reply<'s>
-    ensures station { station_in R.Roll.meaning R.Roll.lever station.new ≡ after (station_in R.Roll.meaning R.Roll.lever station.old) call }
-    ensures told { result.told.now ≡ (asked (station_in R.Roll.meaning R.Roll.lever station.old) call).told }
-    ensures factor { result.factor ≡ (asked (station_in R.Roll.meaning R.Roll.lever station.old) call).factor }
+    ensures station { station_in R.Roll.meaning R.Roll.LEVER station.new ≡ after (station_in R.Roll.meaning R.Roll.LEVER station.old) call }
+    ensures told { result.told.now ≡ (asked (station_in R.Roll.meaning R.Roll.LEVER station.old) call).told }
+    ensures factor { result.factor ≡ (asked (station_in R.Roll.meaning R.Roll.LEVER station.old) call).factor }
 {
     let answer = station.perform(call, sheet);
     Reply {
@@ -36,10 +37,9 @@ pub(super) fn ask<'s, R: Roll>(
 
 // The task with the processor, if there is one.
 #[tactic(auto, unfolding(crate::specs::Scripts::processor, crate::specs::Views::station_in))]
-pub(super) fn first<R: Roll>(station: &mut Live<R>) -> Option<u8>
-    ensures answer { numbered result ≡ processor (station_in R.Roll.meaning R.Roll.lever station.old) }
-    ensures same { station_in R.Roll.meaning R.Roll.lever station.new ≡ station_in R.Roll.meaning R.Roll.lever station.old }
-    ensures within { IfSome result (λ t. 1 ≤ t) }
+pub(super) fn first<R: Roll>(station: &mut Live<R>) -> Option<Task>
+    ensures answer { numbered result ≡ processor (station_in R.Roll.meaning R.Roll.LEVER station.old) }
+    ensures same { station_in R.Roll.meaning R.Roll.LEVER station.new ≡ station_in R.Roll.meaning R.Roll.LEVER station.old }
 {
     station.first()
 }

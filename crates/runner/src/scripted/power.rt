@@ -14,7 +14,7 @@ impl<R: Roll> ScriptedStation<R> {
     // Powers a station up with a book.
     #[tactic(auto, unfolding(crate::specs::Listing::powered_up, crate::specs::Views::station_in))]
     pub(crate) fn power_up(roll: R, book: Book<'_>) -> ScriptedStation<R>
-        ensures { progress_in R.Roll.meaning R.Roll.lever result ≡ powered_up R.Roll.lever book.entry.bytes.now }
+        ensures { progress_in R.Roll.meaning R.Roll.LEVER result ≡ powered_up R.Roll.LEVER book.entry.bytes.now }
     {
         ScriptedStation {
             station: Cold::new(roll).power_up(book),
@@ -27,7 +27,7 @@ impl<R: Roll> ScriptedStation<R> {
     pub(crate) fn stop(self) -> u8
     where
         R: Drop,
-        ensures { result ≡ left_on (progress_in R.Roll.meaning R.Roll.lever self) }
+        ensures { result ≡ left_on (progress_in R.Roll.meaning R.Roll.LEVER self) }
     {
         let ScriptedStation {
             station,

@@ -25,9 +25,9 @@ fn instruction_at(book: Book<'_>, task: u8, row: usize) -> Option<Instruction>
 impl<R: Roll> ScriptedStation<R> {
     // The task issues a macro and goes on to the next row.
     fn issue<'s>(&mut self, task: u8, m: Macro, sheet: &'s mut [Event; LEAST_SHEET]) -> &'s [Event]
-        requires { ((progress_in R.Roll.meaning R.Roll.lever self.old).positions task).row < 2 ^ 32 }
-        ensures progress { progress_in R.Roll.meaning R.Roll.lever self.new ≡ (does (progress_in R.Roll.meaning R.Roll.lever self.old) task (Some (MacroRow m))).progress }
-        ensures told { result.now ≡ (does (progress_in R.Roll.meaning R.Roll.lever self.old) task (Some (MacroRow m))).told }
+        requires { ((progress_in R.Roll.meaning R.Roll.LEVER self.old).positions task).row < 2 ^ 32 }
+        ensures progress { progress_in R.Roll.meaning R.Roll.LEVER self.new ≡ (does (progress_in R.Roll.meaning R.Roll.LEVER self.old) task (Some (MacroRow m))).progress }
+        ensures told { result.now ≡ (does (progress_in R.Roll.meaning R.Roll.LEVER self.old) task (Some (MacroRow m))).told }
     {
         let reply = calls::ask(&mut self.station, Call::Macro(m), sheet);
         let position = self.positions.at(task);
@@ -38,8 +38,8 @@ impl<R: Roll> ScriptedStation<R> {
 
     // The task goes to another row.
     fn jump(&mut self, task: u8, x: u8, t: u32)
-        requires { ((progress_in R.Roll.meaning R.Roll.lever self.old).positions task).row < 2 ^ 32 }
-        ensures { progress_in R.Roll.meaning R.Roll.lever self.new ≡ (does (progress_in R.Roll.meaning R.Roll.lever self.old) task (Some (JumpRow x t))).progress }
+        requires { ((progress_in R.Roll.meaning R.Roll.LEVER self.old).positions task).row < 2 ^ 32 }
+        ensures { progress_in R.Roll.meaning R.Roll.LEVER self.new ≡ (does (progress_in R.Roll.meaning R.Roll.LEVER self.old) task (Some (JumpRow x t))).progress }
     {
         let position = self.positions.at(task);
         self.positions.put(task, position.jumped(x, t));
@@ -52,9 +52,9 @@ impl<R: Roll> ScriptedStation<R> {
         instruction: Instruction,
         sheet: &'s mut [Event; LEAST_SHEET],
     ) -> &'s [Event]
-        requires { ((progress_in R.Roll.meaning R.Roll.lever self.old).positions task).row < 2 ^ 32 }
-        ensures progress { progress_in R.Roll.meaning R.Roll.lever self.new ≡ (does (progress_in R.Roll.meaning R.Roll.lever self.old) task (Some instruction)).progress }
-        ensures told { result.now ≡ (does (progress_in R.Roll.meaning R.Roll.lever self.old) task (Some instruction)).told }
+        requires { ((progress_in R.Roll.meaning R.Roll.LEVER self.old).positions task).row < 2 ^ 32 }
+        ensures progress { progress_in R.Roll.meaning R.Roll.LEVER self.new ≡ (does (progress_in R.Roll.meaning R.Roll.LEVER self.old) task (Some instruction)).progress }
+        ensures told { result.now ≡ (does (progress_in R.Roll.meaning R.Roll.LEVER self.old) task (Some instruction)).told }
     {
         match instruction {
             Instruction::Macro(m) => self.issue(task, m, sheet),
@@ -67,8 +67,8 @@ impl<R: Roll> ScriptedStation<R> {
 
     // Makes a call that moves no task to another row of its script.
     fn call<'s>(&mut self, call: Call, sheet: &'s mut [Event; LEAST_SHEET]) -> &'s [Event]
-        ensures progress { progress_in R.Roll.meaning R.Roll.lever self.new ≡ (calling (progress_in R.Roll.meaning R.Roll.lever self.old).station (progress_in R.Roll.meaning R.Roll.lever self.old).positions call).progress }
-        ensures told { result.now ≡ (calling (progress_in R.Roll.meaning R.Roll.lever self.old).station (progress_in R.Roll.meaning R.Roll.lever self.old).positions call).told }
+        ensures progress { progress_in R.Roll.meaning R.Roll.LEVER self.new ≡ (calling (progress_in R.Roll.meaning R.Roll.LEVER self.old).station (progress_in R.Roll.meaning R.Roll.LEVER self.old).positions call).progress }
+        ensures told { result.now ≡ (calling (progress_in R.Roll.meaning R.Roll.LEVER self.old).station (progress_in R.Roll.meaning R.Roll.LEVER self.old).positions call).told }
     {
         let told = calls::ask(&mut self.station, call, sheet).told;
         self.positions.set_back(told);
@@ -82,12 +82,13 @@ impl<R: Roll> ScriptedStation<R> {
         book: Book<'_>,
         sheet: &'s mut [Event; LEAST_SHEET],
     ) -> &'s [Event]
-        ensures progress { progress_in R.Roll.meaning R.Roll.lever self.new ≡ (row_done book.entry.bytes.now (progress_in R.Roll.meaning R.Roll.lever self.old)).progress }
-        ensures told { result.now ≡ (row_done book.entry.bytes.now (progress_in R.Roll.meaning R.Roll.lever self.old)).told }
+        ensures progress { progress_in R.Roll.meaning R.Roll.LEVER self.new ≡ (row_done book.entry.bytes.now (progress_in R.Roll.meaning R.Roll.LEVER self.old)).progress }
+        ensures told { result.now ≡ (row_done book.entry.bytes.now (progress_in R.Roll.meaning R.Roll.LEVER self.old)).told }
     {
         let Some(task) = calls::first(&mut self.station) else {
             return &[];
         };
+        let task = task.get();
         match instruction_at(book, task, self.positions.at(task).row) {
             Some(instruction) => self.follow(task, instruction, sheet),
             None => self.call(Call::Macro(Macro::Exit), sheet),
@@ -97,8 +98,8 @@ impl<R: Roll> ScriptedStation<R> {
     // One millisecond passes.
     #[tactic(auto, unfolding(crate::specs::Scripts::tick_done))]
     pub(crate) fn do_tick<'s>(&mut self, sheet: &'s mut [Event; LEAST_SHEET]) -> &'s [Event]
-        ensures progress { progress_in R.Roll.meaning R.Roll.lever self.new ≡ (tick_done (progress_in R.Roll.meaning R.Roll.lever self.old)).progress }
-        ensures told { result.now ≡ (tick_done (progress_in R.Roll.meaning R.Roll.lever self.old)).told }
+        ensures progress { progress_in R.Roll.meaning R.Roll.LEVER self.new ≡ (tick_done (progress_in R.Roll.meaning R.Roll.LEVER self.old)).progress }
+        ensures told { result.now ≡ (tick_done (progress_in R.Roll.meaning R.Roll.LEVER self.old)).told }
     {
         self.call(Call::Tick, sheet)
     }

@@ -86,11 +86,7 @@ impl Roll for Stamped {
 
     ghost LEVER = { false };
 
-    ghost lever = { false };
-
     ghost sound = { λ s. (sound_listed s.slots s.next s.whole (orderly_of s), λ t p. absurd (false≢true p)) };
-
-    ghost tied = { refl };
 
     ghost free = { first_of (Prim.search rules, Prim.grind (arith, Self.row.coded.inj)) };
 

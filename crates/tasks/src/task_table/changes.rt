@@ -28,7 +28,7 @@ impl<R: Roll> TaskTable<R> {
 
     // The task is held, or its hold ends; refused, with nothing changed, where that is so already.
     pub fn set_hold(&mut self, task: Task, held: bool) -> Result<(), Refused>
-        requires { R.Roll.lever ≡ true }
+        requires { R.Roll.LEVER ≡ true }
         ensures answer { result ≡ verdict (if held then not ((view R.Roll.meaning self.old).roll.held task) else (view R.Roll.meaning self.old).roll.held task) }
         ensures state { view R.Roll.meaning self.new ≡ (if is_ok result then holding (view R.Roll.meaning self.old) task held else view R.Roll.meaning self.old) }
     {

@@ -12,7 +12,7 @@ loop-task-preserved g c =
     let M = g.R.Roll.meaning in
     let t = c.loop-task.task in
     let p : task? t ≡ true = and_from (ltb 0 t) (ltb t 128) (lt-ltb 0 t (omega arith)) (lt-ltb t 128 (omega arith)) in
-    empty_more g.R.Roll.lever t (M c.loop-task.roll) (M c.clear.new.self) (M c.unhold.new.self) (g.met.R.Roll.free c.loop-task.roll) p c.clear.ensures.after c.unhold.ensures.after c.loop-task.invariant
+    empty_more g.R.Roll.LEVER t (M c.loop-task.roll) (M c.clear.new.self) (M c.unhold.new.self) (g.met.R.Roll.free c.loop-task.roll) p c.clear.ensures.after c.unhold.ensures.after c.loop-task.invariant
 
 pub returns : goal.returns
 returns g c =

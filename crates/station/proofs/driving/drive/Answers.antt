@@ -15,8 +15,8 @@ ran_as {b} {s} {cs} {cs'} {ks} {ks'} p q r = subst (λ (x : List Answer). Ran b 
 
 pub loop-i-init : goal.loop-i-init
 loop-i-init g c =
-    let v = seen g.R.Roll.meaning g.R.Roll.lever c.power_up-live.result in
-    let b = setup_in g.R.Roll.lever c.args.book.bytes.now in
+    let v = seen g.R.Roll.meaning g.R.Roll.LEVER c.power_up-live.result in
+    let b = setup_in g.R.Roll.LEVER c.args.book.bytes.now in
     let e : v ≡ record { setup = b; state = started b } = c.power_up-live.ensures.state in
     let setup : v.setup ≡ b = ap (λ (x : Station). x.setup) e in
     let state : started v.setup ≡ v.state = ap started setup ∙ sym (ap (λ (x : Station). x.state) e) in
@@ -25,8 +25,8 @@ loop-i-init g c =
 pub loop-i-preserved : goal.loop-i-preserved
 loop-i-preserved g c =
     let i = c.loop-i.i in
-    let before = seen g.R.Roll.meaning g.R.Roll.lever c.loop-i.live in
-    let after = seen g.R.Roll.meaning g.R.Roll.lever c.perform.new.self in
+    let before = seen g.R.Roll.meaning g.R.Roll.LEVER c.loop-i.live in
+    let after = seen g.R.Roll.meaning g.R.Roll.LEVER c.perform.new.self in
     let p = c.perform.ensures.performed in
     let lc : i < length c.args.calls.now = omega (arith, c.min-made.ensures) in
     let la : i < length c.loop-i.answers = omega (arith, c.min-made.ensures) in
@@ -41,7 +41,7 @@ pub returns : goal.returns
 returns g c =
     let i = c.loop-i.invariant in
     let e : c.loop-i.i ≡ c.min-made.result = omega arith in
-    let live = seen g.R.Roll.meaning g.R.Roll.lever c.loop-i.live in
+    let live = seen g.R.Roll.meaning g.R.Roll.LEVER c.loop-i.live in
     record {
       made = c.min-made.ensures;
       setup = i.1;

@@ -14,7 +14,7 @@ use Rattle.kernel.proofs.kernel.Kernel.beat.Goals as goal
 
 pub returns-in_default : goal.returns-in_default
 returns-in_default g c =
-    let s = (seen g.R.Roll.meaning g.R.Roll.lever c.args.self.now).state in
+    let s = (seen g.R.Roll.meaning g.R.Roll.LEVER c.args.self.now).state in
     let e = c.beat-told.ensures in
     let at = c.in_default.ensures in
     let told : timer_events s ≡ tick_events s = sym (append-nil (timer_events s)) ∙ events_at None s at.second in
@@ -28,7 +28,7 @@ returns-in_default g c =
 
 pub returns : goal.returns
 returns g c =
-    let s = (seen g.R.Roll.meaning g.R.Roll.lever c.args.self.now).state in
+    let s = (seen g.R.Roll.meaning g.R.Roll.LEVER c.args.self.now).state in
     let e = c.beat-told.ensures in
     let f = c.beat.ensures in
     let at = c.in-Some.ensures in

@@ -10,7 +10,7 @@ use Rattle.kernel.proofs.kernel.Kernel.issue.Goals as goal
 
 pub returns-then-not-is_in_range : goal.returns-then-not-is_in_range
 returns-then-not-is_in_range g c =
-    let v = seen g.R.Roll.meaning g.R.Roll.lever c.args.self.now in
+    let v = seen g.R.Roll.meaning g.R.Roll.LEVER c.args.self.now in
     let r = c.in_ok-issuer.field-0.now in
     let m = v.state.tasks.roll in
     let had : Some r ≡ first_in m = sym (ap option_copied c.in_ok-issuer.ensures.ok_part) ∙ c.requires.was in
@@ -19,7 +19,7 @@ returns-then-not-is_in_range g c =
 
 pub returns : goal.returns
 returns g c =
-    let v = seen g.R.Roll.meaning g.R.Roll.lever c.args.self.now in
+    let v = seen g.R.Roll.meaning g.R.Roll.LEVER c.args.self.now in
     let r = c.in_ok-issuer.field-0.now in
     let m = v.state.tasks.roll in
     let had : Some r ≡ first_in m = sym (ap option_copied c.in_ok-issuer.ensures.ok_part) ∙ c.requires.was in

@@ -9,5 +9,5 @@ returns g c =
     let e = c.of-setup.ensures in
     let levels = ap started_tasks (fun_ext c.levels-levels.ensures) in
     same_station
-    (same_setup g.R.Roll.lever e.registered e.written)
+    (same_setup g.R.Roll.LEVER e.registered e.written)
     (same_state (c.powered.ensures ∙ levels ∙ ap (λ (f : ℕ → ℕ). started_tasks f) e.written) (no_timers c.free.result c.free.ensures) (no_wakes c.free-2.result c.free-2.ensures) (search rules))

@@ -8,5 +8,5 @@ use Rattle.kernel.proofs.kernel.Kernel.work.Goals as goal
 
 pub returns-in-Tick : goal.returns-in-Tick
 returns-in-Tick g c =
-    let v = seen g.R.Roll.meaning g.R.Roll.lever c.args.self.now in
+    let v = seen g.R.Roll.meaning g.R.Roll.LEVER c.args.self.now in
     (Done, telling (ticked v.state) (tick_events v.state), ap (worked v.setup v.state) (sym c.in-Tick.is), search rules)

@@ -7,8 +7,8 @@ use Rattle.runner.proofs.scripted.ScriptedStation.do_row.Goals as goal
 
 pub returns-in-Some-instruction_at : goal.returns-in-Some-instruction_at
 returns-in-Some-instruction_at g c =
-    let p = progress_in g.R.Roll.meaning g.R.Roll.lever c.args.self.now in
-    let q : Progress = record { station = station_in g.R.Roll.meaning g.R.Roll.lever c.first.new.station; positions = p.positions } in
+    let p = progress_in g.R.Roll.meaning g.R.Roll.LEVER c.args.self.now in
+    let q : Progress = record { station = station_in g.R.Roll.meaning g.R.Roll.LEVER c.first.new.station; positions = p.positions } in
     let t = c.in-Some.task in
     let i = c.in-Some-instruction_at.ensures.value ∙ ap (λ (x : Position). instruction_of c.args.book.bytes.now t x.row) c.at.ensures in
     let w = row_does c.args.book.bytes.now p q t (Some c.in-Some-instruction_at.instruction) c.in-Some.ensures.answer (same_progress c.first.ensures.same refl) c.in-Some.ensures.within i in
@@ -19,8 +19,8 @@ returns-in-Some-instruction_at g c =
 
 pub returns-in-None : goal.returns-in-None
 returns-in-None g c =
-    let p = progress_in g.R.Roll.meaning g.R.Roll.lever c.args.self.now in
-    let q : Progress = record { station = station_in g.R.Roll.meaning g.R.Roll.lever c.first.new.station; positions = p.positions } in
+    let p = progress_in g.R.Roll.meaning g.R.Roll.LEVER c.args.self.now in
+    let q : Progress = record { station = station_in g.R.Roll.meaning g.R.Roll.LEVER c.first.new.station; positions = p.positions } in
     let t = c.in-Some.task in
     let i = c.in-None.ensures.value ∙ ap (λ (x : Position). instruction_of c.args.book.bytes.now t x.row) c.at.ensures in
     let w = row_does c.args.book.bytes.now p q t None c.in-Some.ensures.answer (same_progress c.first.ensures.same refl) c.in-Some.ensures.within i in

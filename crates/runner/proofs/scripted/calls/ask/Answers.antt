@@ -6,8 +6,8 @@ use Rattle.runner.proofs.scripted.calls.ask.Goals as goal
 pub returns : goal.returns
 unfolding station_in
 returns g c =
-    let before = seen g.R.Roll.meaning g.R.Roll.lever c.args.station.now in
-    let done = seen g.R.Roll.meaning g.R.Roll.lever c.perform-answer.new.self in
+    let before = seen g.R.Roll.meaning g.R.Roll.LEVER c.args.station.now in
+    let done = seen g.R.Roll.meaning g.R.Roll.LEVER c.perform-answer.new.self in
     let answer = c.perform-answer.result in
     let left = c.perform-answer.new.sheet in
     let p = c.perform-answer.ensures.performed in

@@ -11,9 +11,9 @@ use Rattle.station.proofs.cold.Cold.power_up.Goals as goal
 
 pub returns : goal.returns
 returns g c =
-    let v = seen g.R.Roll.meaning g.R.Roll.lever c.over.result in
-    let b = setup_in g.R.Roll.lever c.args.book.bytes.now in
-    let e : v ≡ record { setup = b; state = started b } = ap (λ (k : Kernel g.row.R.Denot). seen_in g.R.Roll.meaning g.R.Roll.lever k) c.over.ensures ∙ c.powered.ensures in
+    let v = seen g.R.Roll.meaning g.R.Roll.LEVER c.over.result in
+    let b = setup_in g.R.Roll.LEVER c.args.book.bytes.now in
+    let e : v ≡ record { setup = b; state = started b } = ap (λ (k : Kernel g.row.R.Denot). seen_in g.R.Roll.meaning g.R.Roll.LEVER k) c.over.ensures ∙ c.powered.ensures in
     let r : Reached v.setup powered v.state = subst (λ (x : Station). Reached x.setup powered x.state) (sym e) on in
     record {
       state = e;

@@ -5,7 +5,7 @@ use Rattle.station.proofs.live.Live.first.Goals as goal
 
 pub returns : goal.returns
 returns g c =
-    let v = seen g.R.Roll.meaning g.R.Roll.lever c.args.self.now in
+    let v = seen g.R.Roll.meaning g.R.Roll.LEVER c.args.self.now in
     let e = c.first.ensures in
     record {
       answer = e.answer;
