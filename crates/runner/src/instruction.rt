@@ -7,7 +7,7 @@ use book::{Letter, byte_at, u32_at};
 use rules::Macro;
 
 /// What a task does at a row of its script.
-#[derive(Clone, Copy)]
+#[derive(Clone, Copy, PartialEq, Eq, Debug)]
 pub enum Instruction {
     /// It issues a macro.
     Macro(Macro),
