@@ -24,7 +24,7 @@ use text::read_hex;
 
 // The line of an answer: code, factor, and each event's word and task.
 fn answer_line(heap: Global, answer: Answer, sheet: &[Event]) -> Result<String, AllocError> {
-    let mut line = format!(in heap; "{} {}", answer.code.number(), answer.factor)?;
+    let mut line = format!(in heap; "{} {}", u8::from(answer.code), answer.factor)?;
     for event in sheet.iter().take(answer.told) {
         write!(line, " {event}")?;
     }

@@ -61,14 +61,6 @@ impl From<Code> for u8 {
     }
 }
 
-impl Code {
-    pub fn number(self) -> u8
-        ensures { result ≡ number_of self }
-    {
-        u8::from(self)
-    }
-}
-
 // A code, how many events were told, and beside them the factor that gfact took.
 #[derive(Clone, Copy, PartialEq, Eq, Debug)]
 pub struct Answer {

@@ -18,7 +18,8 @@ use roll::Roll;
 use rules::LEAST_SHEET;
 use sheet::{Event, Kind};
 
-// One step: the task with the processor, if any, does a row or exits, and then a millisecond passes.
+// One step: the task with the processor, if any, does a row or exits, and then a millisecond passes. The book is
+// handed along: were it kept beside the station, each function there would have to say that it stays.
 #[tactic(auto, using(crate::proofs::Sent::events_both), unfolding(crate::specs::Scripts::stepped))]
 fn take_step<R: Roll, S: Sink>(
     scripted: &mut ScriptedStation<R>,
