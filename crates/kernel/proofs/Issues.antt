@@ -1,9 +1,11 @@
 -- The checks that are common to all macros.
-use Rattle.std.proofs.Common.{◌≡◌, ℕ, ◌≤◌, true, false, not, eqb, List, ◌∷◌, Ok, Err, Some, Result, sym, ap, ◌∙◌, subst, arith}
+use Rattle.std.proofs.Common.{◌≡◌, ℕ, ◌≤◌, true, false, not, eqb, List, ◌∷◌, Ok, Err, Some, Option, Result, Bor, sym, ap, ◌∙◌, subst, arith}
+use Rattle.std.specs.Prelude.{option_copied}
 use Rattle.std.proofs.lemmas.Bool.{cond-true, cond-false}
 use Rattle.std.proofs.lemmas.Bool.Decides.{nat_tests}
 use Rattle.sheet.specs.declared.event.Event.{Event}
-use Rattle.roll.specs.Model.{first_in}
+use Rattle.roll.specs.Model.{Model, Sound, first_in}
+use Rattle.roll.proofs.Firsts.{first_below}
 use Rattle.rules.specs.declared.answer.Code.TheVariants.{Done, Idle, FieldRange}
 use Rattle.rules.specs.declared.answer.Answer.{Answer}
 use Rattle.rules.specs.declared.call.Call.TheVariants.{Macro as Issued}
@@ -18,6 +20,13 @@ use Rattle.kernel.specs.Obeys.{Obeys, Works, worked}
 
 not_idle : (r : ℕ) → 1 ≤ r → eqb r 0 ≡ false
 not_idle r h = grind (arith, nat_tests)
+
+-- the first task of a roll, when it was asked for by a reference; its number is at least 1
+pub had_by : (m : Model) (o : Option (Bor ℕ)) (t : Bor ℕ) → o ≡ Some t → option_copied o ≡ first_in m → Some t.now ≡ first_in m
+had_by m o t e f = sym (ap option_copied e) ∙ f
+
+pub numbered_by : (m : Model) (r : ℕ) → Sound m → Some r ≡ first_in m → 1 ≤ r
+numbered_by m r s e = (first_below m.held m.entries r s.0.0 (sym e)).0
 
 -- a macro of the task r, which has the processor
 module _ (before : Station) (m : Macro) (r : ℕ) (had : Some r ≡ first_in before.state.tasks.roll) (numbers : 1 ≤ r) where
