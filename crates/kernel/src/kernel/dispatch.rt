@@ -1,6 +1,6 @@
 //! From a call to what is done: the checks that are common to all, and then each macro's own.
 
-ghost use Rattle.std.specs.Prelude.{◌≡◌, ◌≤◌, true, length, option_copied};
+ghost use Rattle.std.specs.Prelude.{◌≡◌, true, option_copied};
 ghost use Rattle.rules.specs.declared.answer.Code.TheVariants.{FieldRange as FieldRangeOf};
 ghost use Rattle.rules.specs.declared.call.Call.TheVariants.{Macro as MacroOf};
 ghost use Rattle.roll.specs.Model.{first_in};
@@ -19,8 +19,7 @@ use sheet::Event;
 
 impl<R: Roll> Kernel<R> {
     // A macro with a field out of range: the issuer's starts are cut, as by an abort.
-    fn cut_issuer(&mut self, issuer: Task, sheet: &mut [Event]) -> Effect
-        requires { 100 ≤ length sheet.old }
+    fn cut_issuer(&mut self, issuer: Task, sheet: &mut [Event; LEAST_SHEET]) -> Effect
         ensures { Did FieldRangeOf (cutting (seen R.Roll.meaning R.Roll.LEVER self.old).setup (seen R.Roll.meaning R.Roll.LEVER self.old).state issuer issuer) (seen R.Roll.meaning R.Roll.LEVER self.old) sheet.old (seen R.Roll.meaning R.Roll.LEVER self.new) result sheet.new }
     {
         let told = self.cut(issuer, sheet);
@@ -34,9 +33,13 @@ impl<R: Roll> Kernel<R> {
     }
 
     // What a macro in range does, or its own causes to turn it down.
-    fn obey(&mut self, m: Macro, issuer: Task, sheet: &mut [Event]) -> Result<Effect, Answer>
+    fn obey(
+        &mut self,
+        m: Macro,
+        issuer: Task,
+        sheet: &mut [Event; LEAST_SHEET],
+    ) -> Result<Effect, Answer>
         requires fields { in_range m ≡ true }
-        requires room { 100 ≤ length sheet.old }
         ensures { Obeys (seen R.Roll.meaning R.Roll.LEVER self.old) issuer m sheet.old (seen R.Roll.meaning R.Roll.LEVER self.new) result sheet.new }
     {
         match m {
@@ -69,8 +72,12 @@ impl<R: Roll> Kernel<R> {
     }
 
     // A macro of the task that has the processor, if one has it.
-    fn issue(&mut self, m: Macro, was: Option<&Task>, sheet: &mut [Event]) -> Result<Effect, Answer>
-        requires room { 100 ≤ length sheet.old }
+    fn issue(
+        &mut self,
+        m: Macro,
+        was: Option<&Task>,
+        sheet: &mut [Event; LEAST_SHEET],
+    ) -> Result<Effect, Answer>
         requires was { option_copied was ≡ first_in (seen R.Roll.meaning R.Roll.LEVER self.old).state.tasks.roll }
         ensures { Works (seen R.Roll.meaning R.Roll.LEVER self.old) (MacroOf m) sheet.old (seen R.Roll.meaning R.Roll.LEVER self.new) result sheet.new }
     {
@@ -86,9 +93,8 @@ impl<R: Roll> Kernel<R> {
         &mut self,
         call: Call,
         was: Option<&Task>,
-        sheet: &mut [Event],
+        sheet: &mut [Event; LEAST_SHEET],
     ) -> Result<Effect, Answer>
-        requires room { 100 ≤ length sheet.old }
         requires was { option_copied was ≡ first_in (seen R.Roll.meaning R.Roll.LEVER self.old).state.tasks.roll }
         ensures { Works (seen R.Roll.meaning R.Roll.LEVER self.old) call sheet.old (seen R.Roll.meaning R.Roll.LEVER self.new) result sheet.new }
     {
@@ -106,12 +112,12 @@ impl<R: Roll> Kernel<R> {
     pub fn carry_out(&mut self, call: Call, sheet: &mut [Event]) -> Answer
         ensures { Performed (seen R.Roll.meaning R.Roll.LEVER self.old) call sheet.old (seen R.Roll.meaning R.Roll.LEVER self.new) result sheet.new }
     {
-        if sheet.len() < LEAST_SHEET {
+        let Some(front) = sheet.first_chunk_mut::<LEAST_SHEET>() else {
             return Answer::silent(Code::ShortSheet);
-        }
+        };
         let was = self.tasks.first();
-        match self.work(call, was.as_ref(), sheet) {
-            Ok(effect) => self.settle(was, effect, sheet),
+        match self.work(call, was.as_ref(), front) {
+            Ok(effect) => self.settle(was, effect, front),
             Err(answer) => answer,
         }
     }

@@ -10,6 +10,7 @@ ghost use Rattle.kernel.specs.Views.{seen};
 use crate::kernel::Kernel;
 use numbers::Task;
 use roll::Roll;
+use rules::LEAST_SHEET;
 use sheet::{Event, Kind, tell_times};
 use table::row;
 use table::selection::Selection;
@@ -20,8 +21,7 @@ use tasks::TaskTable;
 impl<R: Roll> Kernel<R> {
     // Cuts all starts of a task, and its delay goes; one event each stands at the front of the sheet then. Answers how
     // many there were.
-    pub(crate) fn cut(&mut self, task: Task, sheet: &mut [Event]) -> usize
-        requires { 2 ≤ length sheet.old }
+    pub(crate) fn cut(&mut self, task: Task, sheet: &mut [Event; LEAST_SHEET]) -> usize
         ensures setup { (seen R.Roll.meaning R.Roll.LEVER self.new).setup ≡ (seen R.Roll.meaning R.Roll.LEVER self.old).setup }
         ensures state { (seen R.Roll.meaning R.Roll.LEVER self.new).state ≡ (cutting (seen R.Roll.meaning R.Roll.LEVER self.old).setup (seen R.Roll.meaning R.Roll.LEVER self.old).state task task).state }
         ensures count { result ≡ length (cut_events (seen R.Roll.meaning R.Roll.LEVER self.old).state.tasks task) }
@@ -42,8 +42,7 @@ impl<R: Roll> Kernel<R> {
 
     // One millisecond passes: the timers are beaten, and then, on a full second, the wakes, whose events stand behind
     // those of the timers. Answers how many events were told.
-    pub(crate) fn beat(&mut self, sheet: &mut [Event]) -> usize
-        requires { 96 ≤ length sheet.old }
+    pub(crate) fn beat(&mut self, sheet: &mut [Event; LEAST_SHEET]) -> usize
         ensures setup { (seen R.Roll.meaning R.Roll.LEVER self.new).setup ≡ (seen R.Roll.meaning R.Roll.LEVER self.old).setup }
         ensures state { (seen R.Roll.meaning R.Roll.LEVER self.new).state ≡ ticked (seen R.Roll.meaning R.Roll.LEVER self.old).state }
         ensures count { result ≡ length (tick_events (seen R.Roll.meaning R.Roll.LEVER self.old).state) }

@@ -1,6 +1,6 @@
 //! The calls that begin and finish starts, once their common checks are passed.
 
-ghost use Rattle.std.specs.Prelude.{◌≤◌, length, Ok};
+ghost use Rattle.std.specs.Prelude.{Ok};
 ghost use Rattle.rules.specs.declared.call.Macro.TheVariants.{Abort as AbortOf, Exit as ExitOf};
 ghost use Rattle.kernel.specs.Views.{seen};
 ghost use Rattle.kernel.specs.Obeys.{Begins, Obeys};
@@ -9,7 +9,7 @@ use crate::effect::Effect;
 use crate::kernel::Kernel;
 use numbers::{Factor, Task};
 use roll::Roll;
-use rules::{Answer, Code};
+use rules::{Answer, Code, LEAST_SHEET};
 use sheet::{Event, Kind, tell};
 
 impl<R: Roll> Kernel<R> {
@@ -18,9 +18,8 @@ impl<R: Roll> Kernel<R> {
         &mut self,
         task: u8,
         factor: Option<Factor>,
-        sheet: &mut [Event],
+        sheet: &mut [Event; LEAST_SHEET],
     ) -> Result<Effect, Answer>
-        requires { 100 ≤ length sheet.old }
         ensures { Begins (seen R.Roll.meaning R.Roll.LEVER self.old) task factor sheet.old (seen R.Roll.meaning R.Roll.LEVER self.new) result sheet.new }
     {
         let number = self.released(task)?;
@@ -43,9 +42,8 @@ impl<R: Roll> Kernel<R> {
         &mut self,
         task: u8,
         issuer: Task,
-        sheet: &mut [Event],
+        sheet: &mut [Event; LEAST_SHEET],
     ) -> Result<Effect, Answer>
-        requires { 100 ≤ length sheet.old }
         ensures { Obeys (seen R.Roll.meaning R.Roll.LEVER self.old) issuer (AbortOf task) sheet.old (seen R.Roll.meaning R.Roll.LEVER self.new) result sheet.new }
     {
         let Ok(number) = self.setup.registered(task) else {
@@ -59,8 +57,7 @@ impl<R: Roll> Kernel<R> {
     }
 
     // The issuer's current start is ended.
-    pub(crate) fn obey_exit(&mut self, issuer: Task, sheet: &mut [Event]) -> Effect
-        requires { 100 ≤ length sheet.old }
+    pub(crate) fn obey_exit(&mut self, issuer: Task, sheet: &mut [Event; LEAST_SHEET]) -> Effect
         ensures { Obeys (seen R.Roll.meaning R.Roll.LEVER self.old) issuer ExitOf sheet.old (seen R.Roll.meaning R.Roll.LEVER self.new) (Ok result) sheet.new }
     {
         let task = issuer.get();

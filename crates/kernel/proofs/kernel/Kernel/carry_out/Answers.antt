@@ -1,6 +1,7 @@
 use Rattle.std.proofs.Common.{refl, sym, ap, ◌∙◌}
 use Rattle.roll.specs.Model.{first_in}
 use Rattle.rules.specs.State.{Tasks, numbered}
+use Rattle.kernel.proofs.Fronts.{comes_front}
 use Rattle.kernel.proofs.Same.{same_state, same_station}
 use Rattle.kernel.proofs.Settled.{settled_comes, performed}
 use Rattle.kernel.proofs.kernel.Kernel.carry_out.Goals as goal
@@ -10,8 +11,13 @@ returns-in-Ok g c =
     let w = c.in-Ok.ensures in
     let f = c.first-was.ensures in
     let s = c.settle.ensures in
-    performed c.args.call (same_station refl (same_state f.same refl refl refl)) c.if-sheet-lt-LEAST_SHEET.false w.2
-    (settled_comes c.first-was.result w.3 (ap numbered (f.answer ∙ sym (ap (λ (v : Tasks). first_in v.roll) f.same))) s.same s.answer s.sheet)
+    let front = c.in-Some.ensures.cases in
+    performed c.args.call (same_station refl (same_state f.same refl refl refl)) front.enough w.2
+    (comes_front 100 front.enough s.long front.same
+    (settled_comes c.first-was.result w.3 (ap numbered (f.answer ∙ sym (ap (λ (v : Tasks). first_in v.roll) f.same))) s.same s.answer s.sheet))
 
 pub returns-in-Err : goal.returns-in-Err
-returns-in-Err g c = performed c.args.call (same_station refl (same_state c.first-was.ensures.same refl refl refl)) c.if-sheet-lt-LEAST_SHEET.false refl c.in-Err.ensures
+returns-in-Err g c =
+    let front = c.in-Some.ensures.cases in
+    performed c.args.call (same_station refl (same_state c.first-was.ensures.same refl refl refl)) front.enough refl
+    (comes_front 100 front.enough c.work.array_long front.same c.in-Err.ensures)
