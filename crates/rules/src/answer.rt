@@ -66,6 +66,7 @@ impl From<Code> for u8 {
 pub struct Answer {
     pub code: Code,
     pub told: usize,
+    // 0 where none was taken, as the rules answer it.
     pub factor: u8,
 }
 

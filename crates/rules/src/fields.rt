@@ -4,6 +4,7 @@ ghost use Rattle.std.specs.Prelude.{◌≡◌};
 ghost use Rattle.rules.specs.Fields.{task_field, factor_field, wait_field, in_range};
 
 use crate::call::Macro;
+use numbers::{Factor, Level};
 
 // Whether a task field is 1 to 128. 128 is in range, and no task.
 pub fn is_task_field(task: u8) -> bool
@@ -15,7 +16,7 @@ pub fn is_task_field(task: u8) -> bool
 fn is_factor(factor: u8) -> bool
     ensures { result ≡ factor_field factor }
 {
-    factor <= 16
+    Factor::new(factor).is_some()
 }
 
 fn is_wait(t: u32) -> bool
@@ -45,7 +46,7 @@ impl Macro {
                 cycle,
                 factor,
             } => { is_task_field(task) && is_wait(t) && cycle <= 86_400_000 && is_factor(factor) }
-            Macro::Chap { task, level } => is_task_field(task) && level <= 4,
+            Macro::Chap { task, level } => is_task_field(task) && Level::new(level).is_some(),
             Macro::Wake {
                 task,
                 factor,
