@@ -10,7 +10,7 @@ use numbers::{Bounded, Factor, Level, Task};
 use roll::{Refused, Roll};
 
 impl<R: Roll> TaskTable<R> {
-    // The task is released.
+    // The task is released. Of any LOW, since a record stands for number 0 too.
     pub fn release<const LOW: u8>(&mut self, task: Bounded<LOW, 127>)
         ensures { view R.Roll.meaning self.new ≡ releasing (view R.Roll.meaning self.old) task.entry }
     {
@@ -39,7 +39,7 @@ impl<R: Roll> TaskTable<R> {
         }
     }
 
-    // Whether the factor of the task is set.
+    // Whether the factor of the task is set. Of any LOW, since a record stands for number 0 too.
     pub fn has_factor<const LOW: u8>(&self, task: Bounded<LOW, 127>, factor: Factor) -> bool
         ensures { result ≡ (view R.Roll.meaning self.now).factors task.entry factor }
     {
@@ -47,6 +47,7 @@ impl<R: Roll> TaskTable<R> {
     }
 
     // Takes the smallest factor of the task that is set, and answers it.
+    // Of any LOW, since a record stands for number 0 too.
     pub fn take_factor<const LOW: u8>(&mut self, task: Bounded<LOW, 127>) -> Option<Factor>
         ensures answer { result ≡ smallest_of (view R.Roll.meaning self.old) task.entry }
         ensures state { view R.Roll.meaning self.new ≡ without (view R.Roll.meaning self.old) task.entry result }

@@ -19,7 +19,7 @@ impl<R: Roll> TaskTable<R> {
         ensures answer { result ≡ first_in (view R.Roll.meaning self.old).roll }
         ensures same { view R.Roll.meaning self.new ≡ view R.Roll.meaning self.old }
     {
-        self.roll.first().and_then(Task::new)
+        self.roll.first().map(Task::within)
     }
 
     // Whether one start more would be accepted.
@@ -47,6 +47,7 @@ impl<R: Roll> TaskTable<R> {
 
     // Tells at the front of the sheet who has the processor now, if another task had it before or the start that had it
     // is over; answers how many events that were. `was` may be of any range, since it is only compared.
+    // A count, as of all that tells events, so that callers add it.
     pub fn tell_turn<const LOW: u8, const HIGH: u8>(
         &mut self,
         was: Option<Bounded<LOW, HIGH>>,
@@ -73,7 +74,7 @@ impl<R: Roll> TaskTable<R> {
     }
 }
 
-// The number by which an event tells of a task with the processor; 0 means that it is idle.
+// The number by which an event tells of a task with the processor: the rules tell of an idle processor as task 0.
 fn told_of<const LOW: u8, const HIGH: u8>(task: Option<Bounded<LOW, HIGH>>) -> u8
     ensures { result ≡ numbered task.entry }
 {

@@ -49,21 +49,21 @@ impl<R: Roll> TaskTable<R> {
         }
     }
 
-    // A factor of the task is set.
+    // A factor of the task is set. Of any LOW, since a record stands for number 0 too.
     pub fn set_factor<const LOW: u8>(&mut self, task: Bounded<LOW, 127>, factor: Factor)
         ensures { view R.Roll.meaning self.new ≡ factored (view R.Roll.meaning self.old) task.entry factor }
     {
         self.records[task.get() as usize].factors.insert(factor);
     }
 
-    // The current start of the task sleeps.
+    // The current start of the task sleeps. Of any number, as a roll's.
     pub fn sleep(&mut self, task: u8)
         ensures { view R.Roll.meaning self.new ≡ slept (view R.Roll.meaning self.old) task }
     {
         let _ = self.roll.sleep(task);
     }
 
-    // The current start of the task is ended.
+    // The current start of the task is ended. Of any number, as a roll's.
     pub fn finish(&mut self, task: u8)
         ensures { view R.Roll.meaning self.new ≡ finished (view R.Roll.meaning self.old) task }
     {
