@@ -20,9 +20,9 @@ pub struct Kernel<R> {
 
 mod dispatch;
 mod effects;
-mod host;
 mod modes;
 mod power;
+mod processor;
 mod settling;
 mod starts;
 mod timing;

@@ -1,9 +1,9 @@
 //! The macros on timers, wakes and the clock, once their common checks are passed.
 
-ghost use Rattle.std.specs.Prelude.{◌≡◌, ◌<◌, not, [], length, filter, if◌then◌else◌, Ok, Err, OnErr, nat_eq};
+ghost use Rattle.std.specs.Prelude.{◌≡◌, ◌<◌, not, [], length, filter, if◌then◌else◌, Ok, Err, OnErr, nat_eq, nat_lt};
 ghost use Rattle.table.specs.declared.selection.Selection.TheVariants.{Set as SetOf};
-ghost use Rattle.table.specs.Rows.{entries};
-ghost use Rattle.rules.specs.declared.answer.Code.TheVariants.{NothingSet as NothingSetOf};
+ghost use Rattle.table.specs.Rows.{entries, added};
+ghost use Rattle.rules.specs.declared.answer.Code.TheVariants.{NothingSet as NothingSetOf, TableFull as TableFullOf};
 ghost use Rattle.rules.specs.declared.call.Macro.TheVariants.{Delay as DelayOf, Timer as TimerOf, Ctime as CtimeOf, Wake as WakeOf, Cwake as CwakeOf, Stime as StimeOf};
 ghost use Rattle.kernel.specs.Views.{seen};
 ghost use Rattle.kernel.specs.Obeys.{Obeys, Changes};
@@ -29,12 +29,21 @@ fn cancel<E: TableEntry>(places: &mut [E::Place], task: u8, factor: u8) -> Resul
     check(removed == 0, Code::NothingSet)
 }
 
+// A set: an entry goes behind the others of its table, if there is room.
+fn set<E: TableEntry>(places: &mut [E::Place], entry: E) -> Result<(), Code>
+    ensures outcome { result ≡ (if nat_lt (length (entries E.TableEntry.live places.old)) (length places.old) then Ok tt else Err TableFullOf) }
+    ensures entries { entries E.TableEntry.live places.new ≡ added (length places.old) (entries E.TableEntry.live places.old) (E.TableEntry.place entry) }
+    ensures same { OnErr result (entries E.TableEntry.live places.new ≡ entries E.TableEntry.live places.old) }
+{
+    row::add::<E>(places, entry).map_err(|_| Code::TableFull)
+}
+
 impl<R: Roll> Kernel<R> {
     // The issuer sleeps.
     pub(crate) fn obey_delay(&mut self, t: u32, issuer: Task) -> Result<Effect, Answer>
         ensures { Obeys (seen R.Roll.meaning R.Roll.LEVER self.old) issuer (DelayOf t) [] (seen R.Roll.meaning R.Roll.LEVER self.new) result [] }
     {
-        row::add::<Timer>(&mut self.timers, Timer::delay(issuer, t)).map_err(|_| Code::TableFull)?;
+        set(&mut self.timers, Timer::delay(issuer, t))?;
         self.tasks.sleep(issuer.get());
         Ok(Effect::quiet())
     }
@@ -50,9 +59,7 @@ impl<R: Roll> Kernel<R> {
         ensures { Changes (seen R.Roll.meaning R.Roll.LEVER self.old) (TimerOf task t cycle factor) (seen R.Roll.meaning R.Roll.LEVER self.new) result }
     {
         let task = self.setup.registered(task)?;
-        row::add::<Timer>(&mut self.timers, Timer::timer(task, factor, t, cycle)).map_err(
-            |_| Code::TableFull,
-        )?;
+        set(&mut self.timers, Timer::timer(task, factor, t, cycle))?;
         Ok(Effect::quiet())
     }
 
@@ -75,9 +82,7 @@ impl<R: Roll> Kernel<R> {
         ensures { Changes (seen R.Roll.meaning R.Roll.LEVER self.old) (WakeOf task factor second cycle) (seen R.Roll.meaning R.Roll.LEVER self.new) result }
     {
         let task = self.setup.registered(task)?;
-        row::add::<Wake>(&mut self.wakes, Wake::waiting(task, factor, second, cycle)).map_err(
-            |_| Code::TableFull,
-        )?;
+        set(&mut self.wakes, Wake::waiting(task, factor, second, cycle))?;
         Ok(Effect::quiet())
     }
 

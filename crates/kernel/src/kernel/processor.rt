@@ -1,4 +1,4 @@
-//! Whom the processor has.
+//! Who has the processor.
 
 ghost use Rattle.std.specs.Prelude.{◌≡◌};
 ghost use Rattle.roll.specs.Model.{first_in};
