@@ -6,54 +6,37 @@ ghost use Rattle.book.specs.Letters.{byte_of, letter_of, Reads};
 use std::error::Error;
 use std::fmt;
 
-/// What an instruction does: a macro of the station, or a jump within the script.
+/// What an instruction does: a macro of the station, or a jump within the script. Its number is its byte in a book.
 #[derive(Clone, Copy, Debug, PartialEq, Eq)]
 pub enum Letter {
-    Rleas,
-    Queue,
-    Abort,
-    Delay,
-    Timer,
-    Ctime,
-    Chap,
-    Sfact,
-    Gfact,
-    Susp,
-    Rsum,
-    Wake,
-    Cwake,
-    Stime,
-    Exit,
-    Jump,
+    Rleas = b'R' as isize,
+    Queue = b'Q' as isize,
+    Abort = b'A' as isize,
+    Delay = b'D' as isize,
+    Timer = b'T' as isize,
+    Ctime = b'C' as isize,
+    Chap = b'P' as isize,
+    Sfact = b'S' as isize,
+    Gfact = b'G' as isize,
+    Susp = b'H' as isize,
+    Rsum = b'U' as isize,
+    Wake = b'W' as isize,
+    Cwake = b'K' as isize,
+    Stime = b'M' as isize,
+    Exit = b'X' as isize,
+    Jump = b'J' as isize,
 }
 
 /// A byte that stands for no letter.
 #[derive(Clone, Copy, Debug, PartialEq, Eq)]
 pub struct UnknownLetter(pub u8);
 
-/// The byte that stands for the letter in a book. A match, since no discriminant can be written as a byte.
+/// The byte that stands for the letter in a book.
 impl From<Letter> for u8 {
     ghost from_gives = { λ letter byte. (byte ≡ byte_of letter) × (letter_of byte ≡ Some letter) };
 
     fn from(letter: Letter) -> u8 {
-        match letter {
-            Letter::Rleas => b'R',
-            Letter::Queue => b'Q',
-            Letter::Abort => b'A',
-            Letter::Delay => b'D',
-            Letter::Timer => b'T',
-            Letter::Ctime => b'C',
-            Letter::Chap => b'P',
-            Letter::Sfact => b'S',
-            Letter::Gfact => b'G',
-            Letter::Susp => b'H',
-            Letter::Rsum => b'U',
-            Letter::Wake => b'W',
-            Letter::Cwake => b'K',
-            Letter::Stime => b'M',
-            Letter::Exit => b'X',
-            Letter::Jump => b'J',
-        }
+        letter as u8
     }
 }
 
