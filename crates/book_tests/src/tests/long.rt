@@ -2,6 +2,7 @@
 
 use super::{passes, refused};
 use std::alloc::{AllocError, Global};
+use std::iter;
 use std::test::Fail;
 
 /// An instruction that ends the run.
@@ -27,11 +28,8 @@ fn add_tasks(bytes: &mut Vec<u8>, last: u8) -> Result<(), AllocError> {
 }
 
 /// The same bytes so many times.
-fn add_times(bytes: &mut Vec<u8>, row: &[u8], count: u16) -> Result<(), AllocError> {
-    for _ in 0..count {
-        bytes.extend_from_slice(row)?;
-    }
-    Ok(())
+fn add_times(bytes: &mut Vec<u8>, row: &[u8], count: usize) -> Result<(), AllocError> {
+    bytes.extend(iter::repeat_n(row, count).flatten().copied())
 }
 
 #[test]
