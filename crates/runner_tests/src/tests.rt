@@ -13,6 +13,7 @@ mod letters;
 mod scripts;
 
 /// The bytes that the digits name; what is no digit is passed over.
+// The tests of the book have it too: a crate for one function of two crates of tests would be no plainer.
 fn bytes_of(heap: Global, text: &str) -> Result<Vec<u8>, Fail> {
     let digits: String = text
         .chars()
