@@ -86,7 +86,7 @@ impl<'a> Book<'a> {
     }
 
     /// The written level of a task; 0 if it is not registered.
-    // The 0 is promised to callers and no option; `task` tells a row with 0 from no row.
+    // Callers are promised a number, 0 for no row; `task` tells a row of level 0 from no row.
     pub fn level(self, task: u8) -> u8
         ensures { result ≡ level_in self.entry.bytes.now task }
     {
@@ -94,7 +94,7 @@ impl<'a> Book<'a> {
     }
 
     /// How many instructions the script of a task has; 0 if the task is not registered.
-    // The 0 here too is promised; `task` tells an empty script from no row.
+    // Callers are promised a number here too; `task` tells an empty script from no row.
     pub fn script_length(self, task: u8) -> u16
         ensures { result ≡ length_in self.entry.bytes.now task }
     {

@@ -13,7 +13,7 @@ fn check_task(rows: Rows<'_>, index: u16) -> Result<(), Fault>
     ensures { result ≡ (if bad_task rows.entry.bytes.now rows.entry.layout index then Err (fault BadTask (place_of_task rows.entry.layout index)) else Ok tt) }
 {
     let row = rows.task(index);
-    // The bounds stand as numbers: a row may hold any, and two tests need no crate of types more.
+    // The bounds stand as numbers: a row may hold any, and two tests are no reason to need another crate's types.
     if !(1..=127).contains(&row.number)
         || rows.is_numbered(row.number, index)
         || row.level > 4
