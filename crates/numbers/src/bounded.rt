@@ -30,6 +30,8 @@ pub type Factor = Bounded<0, 16>;
 pub type Level = Bounded<0, 4>;
 
 impl<const LOW: u8, const HIGH: u8> Bounded<LOW, HIGH> {
+    // `new` and `get` as the library's NonZero: TryFrom and From promise relations, which no clause can compute with.
+
     /// The number as one of the range, if it is in it.
     pub fn new(number: u8) -> Option<Bounded<LOW, HIGH>>
         ensures { result ≡ (if nat_le LOW number && nat_le number HIGH then Some number else None) }

@@ -5,6 +5,8 @@ ghost use Rattle.roll.specs.Model.{may_level, verdict as verdict_of};
 
 use crate::entry::Refused;
 
+// A roll is handed any number and refuses those out of range, so that it needs no type for tasks and levels.
+
 // Whether the number is a task's.
 pub fn is_task(number: u8) -> bool
     ensures { result ≡ task? number }

@@ -15,6 +15,7 @@ struct Plain {
     lever: bool,
 }
 
+// Once more, and not the roll's own: what it is to be compared with must not share its mistakes.
 fn in_range(task: u8) -> bool {
     (1..=127).contains(&task)
 }

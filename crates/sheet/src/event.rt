@@ -24,6 +24,7 @@ pub enum Kind {
 #[derive(Clone, Copy, PartialEq, Eq, Debug)]
 pub struct Event {
     pub kind: Kind,
+    // A plain number, since the rules tell of an idle processor as task 0.
     pub task: u8,
 }
 

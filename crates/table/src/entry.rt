@@ -43,6 +43,7 @@ pub trait TableEntry: Copy {
     // Whether a removal takes an entry.
     ghost chosen: { Selection → Self.Place → Bool };
 
+    // No Option of an entry: a table answers for a row that holds anything, also what is no entry.
     fn free() -> Self::Place
         ensures { result ≡ vacant };
 

@@ -2,7 +2,7 @@
 //! acceptance, whatever the places they stand in; nothing is asked of what a place holds. The slice is lent as it is, since
 //! a struct round it would have to say in each caller's contract what becomes of the slice when the loan is over.
 
-ghost use Rattle.std.specs.Prelude.{◌≡◌, ◌≤◌, false, not, [], ◌∷◌, ◌++◌, length, is_ok, if◌then◌else◌, filter, nat_lt, position};
+ghost use Rattle.std.specs.Prelude.{◌≡◌, ◌≤◌, false, not, [], ◌∷◌, ◌++◌, Some, codes, length, is_ok, if◌then◌else◌, filter, nat_lt, position};
 ghost use Rattle.sheet.specs.Sheets.{written};
 ghost use Rattle.table.specs.Rows.{entries, lefts, listed, firings, all_fired, all_told, added};
 
@@ -18,6 +18,8 @@ use std::fmt;
 pub struct Full;
 
 impl fmt::Display for Full {
+    ghost output = { λ _. Some (codes "every place is taken") };
+
     fn fmt<W: fmt::Write>(&self, f: &mut fmt::Formatter<W>) -> fmt::Result {
         write!(f, "every place is taken")
     }

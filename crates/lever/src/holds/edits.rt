@@ -19,7 +19,7 @@ impl Holds {
     pub(crate) fn has(&self, task: u8) -> bool
         ensures { result ≡ members self.now task }
     {
-        task < 128 && self.marks[task as usize]
+        self.marks.get(task as usize).is_some_and(|held| *held)
     }
 
     // Holds the task, or ends its hold.

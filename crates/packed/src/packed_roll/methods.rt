@@ -21,6 +21,7 @@ impl Packed {
     }
 
     // Sets the mark of the task's oldest entry. Refused where there is none.
+    // No method of the trait, which would promise a third time what `sleep` and `rouse` do.
     fn mark(&mut self, task: u8, asleep: bool) -> Result<(), Refused>
         ensures answer { result ≡ verdict_of (has_in task (meaning_of self.old)) }
         ensures after { row self.new.entries ≡ marking asleep task (row self.old.entries) }
