@@ -28,6 +28,7 @@ impl Stamped {
     }
 
     // Sets the mark of the task's oldest entry. Refused where there is none.
+    // No method of the trait, which would promise a third time what `sleep` and `rouse` do.
     fn mark(&mut self, task: u8, asleep: bool) -> Result<(), Refused>
         ensures answer { result ≡ verdict_of (has_in task (meaning_of self.old)) }
         ensures after { (meaning_of self.new).entries ≡ marking asleep task (meaning_of self.old).entries }
@@ -140,11 +141,7 @@ impl Roll for Stamped {
     }
 
     fn count(&self, task: u8) -> u8 {
-        if task < 128 {
-            self.slots[task as usize].len()
-        } else {
-            0
-        }
+        self.slots.get(task as usize).map_or(0, |slot| slot.len())
     }
 
     // No default of the trait could refuse both, since a roll may have a lever.
