@@ -1,6 +1,5 @@
 -- The checks that are common to all macros.
-use Rattle.std.proofs.Common.{◌≡◌, ℕ, ◌≤◌, true, false, not, eqb, List, ◌∷◌, Ok, Err, Some, Option, Result, Bor, sym, ap, ◌∙◌, subst, arith}
-use Rattle.std.specs.Prelude.{option_copied}
+use Rattle.std.proofs.Common.{◌≡◌, ℕ, ◌≤◌, true, false, not, eqb, List, ◌∷◌, Ok, Err, Some, Option, Result, sym, ap, ◌∙◌, subst, arith}
 use Rattle.std.proofs.lemmas.Bool.{cond-true, cond-false}
 use Rattle.std.proofs.lemmas.Bool.Decides.{nat_tests}
 use Rattle.sheet.specs.declared.event.Event.{Event}
@@ -21,9 +20,9 @@ use Rattle.kernel.specs.Obeys.{Obeys, Works, worked}
 not_idle : (r : ℕ) → 1 ≤ r → eqb r 0 ≡ false
 not_idle r h = grind (arith, nat_tests)
 
--- the first task of a roll, when it was asked for by a reference; its number is at least 1
-pub had_by : (m : Model) (o : Option (Bor ℕ)) (t : Bor ℕ) → o ≡ Some t → option_copied o ≡ first_in m → Some t.now ≡ first_in m
-had_by m o t e f = sym (ap option_copied e) ∙ f
+-- the first task of a roll, when it was asked for; its number is at least 1
+pub had_by : (m : Model) (o : Option ℕ) (t : ℕ) → o ≡ Some t → o ≡ first_in m → Some t ≡ first_in m
+had_by m o t e f = sym e ∙ f
 
 pub numbered_by : (m : Model) (r : ℕ) → Sound m → Some r ≡ first_in m → 1 ≤ r
 numbered_by m r s e = (first_below m.held m.entries r s.0.0 (sym e)).0

@@ -1,6 +1,6 @@
 //! From a call to what is done: the checks that are common to all, and then each macro's own.
 
-ghost use Rattle.std.specs.Prelude.{◌≡◌, true, option_copied};
+ghost use Rattle.std.specs.Prelude.{◌≡◌, true};
 ghost use Rattle.rules.specs.declared.answer.Code.TheVariants.{FieldRange as FieldRangeOf};
 ghost use Rattle.rules.specs.declared.call.Call.TheVariants.{Macro as MacroOf};
 ghost use Rattle.roll.specs.Model.{first_in};
@@ -75,13 +75,13 @@ impl<R: Roll> Kernel<R> {
     fn issue(
         &mut self,
         m: Macro,
-        was: Option<&Task>,
+        was: Option<Task>,
         sheet: &mut [Event; LEAST_SHEET],
     ) -> Result<Effect, Answer>
-        requires was { option_copied was ≡ first_in (seen R.Roll.meaning R.Roll.LEVER self.old).state.tasks.roll }
+        requires was { was ≡ first_in (seen R.Roll.meaning R.Roll.LEVER self.old).state.tasks.roll }
         ensures { Works (seen R.Roll.meaning R.Roll.LEVER self.old) (MacroOf m) sheet.old (seen R.Roll.meaning R.Roll.LEVER self.new) result sheet.new }
     {
-        let issuer = *was.ok_or(Code::Idle)?;
+        let issuer = was.ok_or(Code::Idle)?;
         if !m.is_in_range() {
             return Ok(self.cut_issuer(issuer, sheet));
         }
@@ -92,10 +92,10 @@ impl<R: Roll> Kernel<R> {
     fn work(
         &mut self,
         call: Call,
-        was: Option<&Task>,
+        was: Option<Task>,
         sheet: &mut [Event; LEAST_SHEET],
     ) -> Result<Effect, Answer>
-        requires was { option_copied was ≡ first_in (seen R.Roll.meaning R.Roll.LEVER self.old).state.tasks.roll }
+        requires was { was ≡ first_in (seen R.Roll.meaning R.Roll.LEVER self.old).state.tasks.roll }
         ensures { Works (seen R.Roll.meaning R.Roll.LEVER self.old) call sheet.old (seen R.Roll.meaning R.Roll.LEVER self.new) result sheet.new }
     {
         match call {
@@ -116,7 +116,8 @@ impl<R: Roll> Kernel<R> {
             return Answer::silent(Code::ShortSheet);
         };
         let was = self.tasks.first();
-        match self.work(call, was.as_ref(), front) {
+        // Copied through a reference: a number with a range that is passed by value is not used again here.
+        match self.work(call, was.as_ref().copied(), front) {
             Ok(effect) => self.settle(was, effect, front),
             Err(answer) => answer,
         }

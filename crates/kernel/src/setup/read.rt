@@ -13,7 +13,7 @@ fn row_of(book: Book<'_>, task: u8) -> Option<Level>
     ensures { result ≡ row_in book.entry.bytes.now task }
 {
     let row = book.task(task)?;
-    Level::new(row.level)
+    Some(Level::within(row.level))
 }
 
 impl Setup {
@@ -47,7 +47,8 @@ impl Setup {
         self.rows[task.get() as usize].unwrap_or(Level::within(0))
     }
 
-    // The written levels of all tasks. A loop by the task's number: rows that are lent are not mapped.
+    // The written levels of all tasks. A loop by the task's number: only an array that is owned is
+    // mapped, and an array of levels is not copied from what is lent.
     pub(crate) fn levels(&self) -> [Level; 128]
         ensures { (t : ℕ) → slice_index result t ≡ written_by self.now t }
     {

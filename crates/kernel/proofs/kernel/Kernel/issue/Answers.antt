@@ -8,15 +8,15 @@ use Rattle.kernel.proofs.kernel.Kernel.issue.Goals as goal
 pub returns-then-not-is_in_range : goal.returns-then-not-is_in_range
 returns-then-not-is_in_range g c =
     let v = seen g.R.Roll.meaning g.R.Roll.LEVER c.args.self.now in
-    let r = c.in_ok-issuer.field-0.now in
-    let had = had_by v.state.tasks.roll c.args.was c.in_ok-issuer.field-0 c.in_ok-issuer.ensures.ok_part c.requires.was in
+    let r = c.in_ok-issuer.issuer in
+    let had = had_by v.state.tasks.roll c.args.was r c.in_ok-issuer.ensures.ok_part c.requires.was in
     let low = numbered_by v.state.tasks.roll r (g.met.R.Roll.sound c.args.self.now.tasks.roll) had in
     (FieldRange, cutting v.setup v.state r r, issue_cut v c.args.m r had low (sym c.if-not-is_in_range.ensures), c.cut_issuer.ensures)
 
 pub returns : goal.returns
 returns g c =
     let v = seen g.R.Roll.meaning g.R.Roll.LEVER c.args.self.now in
-    let r = c.in_ok-issuer.field-0.now in
-    let had = had_by v.state.tasks.roll c.args.was c.in_ok-issuer.field-0 c.in_ok-issuer.ensures.ok_part c.requires.was in
+    let r = c.in_ok-issuer.issuer in
+    let had = had_by v.state.tasks.roll c.args.was r c.in_ok-issuer.ensures.ok_part c.requires.was in
     let low = numbered_by v.state.tasks.roll r (g.met.R.Roll.sound c.args.self.now.tasks.roll) had in
     issue_works v c.args.m r had low c.args.sheet.now _ _ (sym c.if-not-is_in_range.ensures) c.obey.result c.obey.ensures
