@@ -51,6 +51,7 @@ fn take_steps<R: Roll, S: Sink>(
         task: 0,
     };
     let mut sheet = [blank; LEAST_SHEET];
+    // By the steps that are done: a range that has its end is left in two ways, and each would need its own proof.
     for done in 0..book.steps() {
         take_step(scripted, book, done + 1, &mut sheet, out)?;
     }

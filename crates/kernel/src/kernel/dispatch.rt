@@ -116,7 +116,7 @@ impl<R: Roll> Kernel<R> {
             return Answer::silent(Code::ShortSheet);
         };
         let was = self.tasks.first();
-        // Copied through a reference: a number with a range that is passed by value is not used again here.
+        // Copied through a reference: the borrow checker copies no number with a range that is passed by value.
         match self.work(call, was.as_ref().copied(), front) {
             Ok(effect) => self.settle(was, effect, front),
             Err(answer) => answer,

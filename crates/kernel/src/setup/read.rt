@@ -47,8 +47,8 @@ impl Setup {
         self.rows[task.get() as usize].unwrap_or(Level::within(0))
     }
 
-    // The written levels of all tasks. A loop by the task's number: only an array that is owned is
-    // mapped, and an array of levels is not copied from what is lent.
+    // The written levels of all tasks. A loop by the task's number: only an array that is owned is mapped, and one
+    // of levels is not copied from what is lent.
     pub(crate) fn levels(&self) -> [Level; 128]
         ensures { (t : ℕ) → slice_index result t ≡ written_by self.now t }
     {

@@ -21,7 +21,7 @@ fn instruction_at(book: Book<'_>, task: u8, row: usize) -> Option<Instruction>
     decode(book.row(task, row)?)
 }
 
-// Each of these answers the events that it told, which stand at the front of the sheet.
+// What makes a call here answers the events that it told, which stand at the front of the sheet.
 impl<R: Roll> ScriptedStation<R> {
     // The task issues a macro and goes on to the next row.
     fn issue<'s>(&mut self, task: u8, m: Macro, sheet: &'s mut [Event; LEAST_SHEET]) -> &'s [Event]
