@@ -45,20 +45,29 @@ fn beat<E: TableEntry>(
     Ok(row::beat::<E, Last>(places, beat, target, sheet))
 }
 
-// One timer of a beat for each of these tasks, all accepted.
-fn add_timers(places: &mut [TimerPlace], first: u8, last: u8) -> Result<(), Fail> {
+// What `make` gives for each of these tasks, all accepted.
+fn add_all<E: TableEntry, Make: Fn(u8) -> Result<E, Fail>>(
+    places: &mut [E::Place],
+    first: u8,
+    last: u8,
+    make: Make,
+) -> Result<(), Fail>
+    requires { Make.IsAlwaysCallable make }
+{
     for task in first..=last {
-        row::add::<Timer>(places, timer(task, 1, 0)?)?;
+        row::add::<E>(places, make(task)?)?;
     }
     Ok(())
 }
 
-// A wake at midnight for each of these tasks, all accepted.
-fn add_wakes(places: &mut [WakePlace], first: u8, last: u8) -> Result<(), Fail> {
-    for task in first..=last {
-        row::add::<Wake>(places, wake(task, 0, 0)?)?;
-    }
-    Ok(())
+// A timer of a beat.
+fn soon(task: u8) -> Result<Timer, Fail> {
+    timer(task, 1, 0)
+}
+
+// A wake at midnight.
+fn at_midnight(task: u8) -> Result<Wake, Fail> {
+    wake(task, 0, 0)
 }
 
 // The event at this place of the sheet.
@@ -136,10 +145,10 @@ fn longest_wait(rt: HostRuntime) -> Result<(), Fail> {
 #[test]
 fn full_tables(rt: HostRuntime) -> Result<(), Fail> {
     let mut timers = [Timer::free(); 64];
-    add_timers(&mut timers, 1, 64)?;
+    add_all(&mut timers, 1, 64, soon)?;
     assert_eq!(rt; row::add::<Timer>(&mut timers, timer(65, 1, 0)?), Err(Full));
     let mut wakes = [Wake::free(); 32];
-    add_wakes(&mut wakes, 1, 32)?;
+    add_all(&mut wakes, 1, 32, at_midnight)?;
     assert_eq!(rt; row::add::<Wake>(&mut wakes, wake(33, 0, 0)?), Err(Full));
     Ok(())
 }
@@ -203,7 +212,7 @@ fn any_places(rt: HostRuntime) -> Result<(), Fail> {
     let mut target = Last { task: 0 };
     assert_eq!(rt; beat::<Timer>(&mut places, (), &mut target, &mut sheet)?, 1);
     told(&rt, &sheet, 0, "accepted", 127)?;
-    add_timers(&mut places, 1, 5)?;
+    add_all(&mut places, 1, 5, soon)?;
     assert_eq!(rt; row::add::<Timer>(&mut places, timer(6, 1, 0)?), Err(Full));
     assert_eq!(rt; places[0].task, 127);
     Ok(())
@@ -215,8 +224,8 @@ fn all_in_one_beat(rt: HostRuntime) -> Result<(), Fail> {
     let mut wakes = [Wake::free(); 32];
     let mut sheet = [NO_EVENT; 96];
     let mut target = Last { task: 0 };
-    add_timers(&mut timers, 1, 64)?;
-    add_wakes(&mut wakes, 65, 96)?;
+    add_all(&mut timers, 1, 64, soon)?;
+    add_all(&mut wakes, 65, 96, at_midnight)?;
     assert_eq!(rt;
         both(&rt, &mut timers, &mut wakes, &mut target, &mut sheet)?,
         96
