@@ -12,7 +12,7 @@ use Rattle.rules.specs.Fields.{in_range}
 use Rattle.rules.specs.Effects.{in_timers, quiet, obeyed}
 use Rattle.rules.specs.Refusals.{Step, settled, refused, unregistered, no_place, nothing_set}
 use Rattle.rules.specs.Calls.{answered}
-use Rattle.cases.specs.Edges.{number, issued, Issuer, FullTable}
+use Rattle.cases.specs.Edges.{number, issued, Issuer, Filled, FullTable}
 use Rattle.cases.proofs.Walks.{passes, stops, own_checks}
 
 parts : (q : TimerPlace → Bool) (ps : List TimerPlace) → length (filter q ps) + length (filter (λ p. not (q p)) ps) ≡ length ps
@@ -45,16 +45,19 @@ module _ (b : Setup) (t n c x : ℕ) (g : b.registered t ≡ true) (f : in_range
 cancelled : (b : Setup) (s : State) (r room u y : ℕ) → Issuer s r room → in_range (Ctime u y) ≡ true → no_timer s u y ≡ false → issued b room s (Ctime u y) ≡ settled s Done (quiet (in_timers s (timers_without s (Set u y))))
 cancelled b s r room u y i f h = own_checks b s r room i (Ctime u y) f ∙ passes (nothing_set b s (no_timer s u y)) [] (settled s Done (obeyed b s (running s.tasks) (Ctime u y))) h
 
+-- the answers of any four steps; a step of its own, so that an answer that is not the table's is seen at once
+filled : (last over cancel again : Step) → number last ≡ 0 → number over ≡ 1 → number cancel ≡ 0 → number again ≡ 0 → Filled last over cancel again
+filled last over cancel again a o c g = record { accepted = a; full = o; cancelled = c; freed = g }
+
 pub fills : (b : Setup) (s : State) (r t n c x u y room : ℕ) → Issuer s r room → b.registered t ≡ true → in_range (Timer t n c x) ≡ true → in_range (Ctime u y) ≡ true
     → length s.timers ≡ 63
     → no_timer (issued b room (issued b room s (Timer t n c x)).state (Timer t n c x)).state u y ≡ false
     → FullTable b s room (Timer t n c x) (Ctime u y)
-fills b s r t n c x u y room i g f d l h = record {
-  accepted = ap number e1;
-  full = ap (λ (k : Step). number (issued b room k.state (Timer t n c x))) e1 ∙ ap number e2;
-  cancelled = ap (λ (z : State). number (issued b room z (Ctime u y))) p ∙ ap number e3;
-  freed = ap (λ (z : State). number (issued b room (issued b room z (Ctime u y)).state (Timer t n c x))) p ∙ ap (λ (k : Step). number (issued b room k.state (Timer t n c x))) e3 ∙ ap number e4;
-}
+fills b s r t n c x u y room i g f d l h =
+    filled _ _ _ _ (ap number e1)
+    (ap (λ (k : Step). number (issued b room k.state (Timer t n c x))) e1 ∙ ap number e2)
+    (ap (λ (z : State). number (issued b room z (Ctime u y))) p ∙ ap number e3)
+    (ap (λ (z : State). number (issued b room (issued b room z (Ctime u y)).state (Timer t n c x))) p ∙ ap (λ (k : Step). number (issued b room k.state (Timer t n c x))) e3 ∙ ap number e4)
   where
     s1 : State
     s1 = in_timers s (s.timers ++ (timer_place t x n c ∷ []))
