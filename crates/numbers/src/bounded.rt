@@ -5,7 +5,7 @@ ghost use Rattle.std.specs.Prelude.{◌≡◌, ℕ, ◌≤◌, ◌&&◌, if◌th
 use std::marker::Model;
 
 /// A number from LOW to HIGH.
-#[derive(Clone, Copy)]
+#[derive(Clone, Copy, PartialEq, Eq, PartialOrd, Ord, Hash, Debug)]
 pub struct Bounded<const LOW: u8, const HIGH: u8> {
     number: u8,
 }

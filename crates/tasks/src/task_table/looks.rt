@@ -1,6 +1,6 @@
 //! What is read off the table.
 
-ghost use Rattle.std.specs.Prelude.{◌≡◌, ◌<◌, length};
+ghost use Rattle.std.specs.Prelude.{◌≡◌, ◌<◌, ◌≤◌, length, IfSome};
 ghost use Rattle.roll.specs.Model.{first_in};
 ghost use Rattle.sheet.specs.Sheets.{written};
 ghost use Rattle.rules.specs.State.{numbered, running};
@@ -18,8 +18,18 @@ impl<R: Roll> TaskTable<R> {
     pub fn first(&mut self) -> Option<Task>
         ensures answer { result ≡ first_in (view R.Roll.meaning self.old).roll }
         ensures same { view R.Roll.meaning self.new ≡ view R.Roll.meaning self.old }
+        ensures within { IfSome result (λ t. (1 ≤ t) × (t ≤ 127)) }
     {
         self.roll.first().map(Task::within)
+    }
+
+    // The task with the processor; 0 means that it is idle.
+    pub fn running(&mut self) -> u8
+        ensures answer { result ≡ running (view R.Roll.meaning self.old) }
+        ensures same { view R.Roll.meaning self.new ≡ view R.Roll.meaning self.old }
+        ensures within { result ≤ 127 }
+    {
+        told_of(self.first())
     }
 
     // Whether one start more would be accepted.
@@ -59,7 +69,7 @@ impl<R: Roll> TaskTable<R> {
         ensures count { result ≡ length (turn (numbered was.entry) over (running (view R.Roll.meaning self.old))) }
         ensures sheet { sheet.new ≡ written (turn (numbered was.entry) over (running (view R.Roll.meaning self.old))) sheet.old }
     {
-        let task = told_of(self.first());
+        let task = self.running();
         if told_of(was) == task && !over {
             return 0;
         }

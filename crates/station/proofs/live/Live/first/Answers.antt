@@ -10,5 +10,6 @@ returns g c =
     record {
       answer = e.answer;
       same = e.same;
+      within = e.within;
       named = named v.setup v.state c.first.result (numbered c.args.self.now.kernel.setup) e.answer;
     }
