@@ -1,6 +1,6 @@
 //! A book that passed the check, and what it says.
 
-ghost use Rattle.std.specs.Prelude.{◌≡◌, true, length, IfSome, None, IfOk};
+ghost use Rattle.std.specs.Prelude.{◌≡◌, true, length, IfSome, None, IfOk, MatchResult};
 ghost use Rattle.std.specs.Result.{result_err};
 ghost use Rattle.book.specs.Layout.{layout_of};
 ghost use Rattle.book.specs.Verdict.{told, clean};
@@ -23,9 +23,11 @@ pub struct Book<'a> {
 }
 
 impl<'a> Book<'a> {
-    /// The book in these bytes, or the fault that is told of them.
+    /// The book in these bytes, or the fault that is told of them. With a fault the book that is opened is the blank one,
+    /// so that a caller who wants it too takes `Book::blank` and checks once.
     pub fn read(bytes: &'a [u8]) -> Result<Book<'a>, Fault>
         ensures fault { result_err result ≡ told bytes.now }
+        ensures bytes { MatchResult result (λ book. book.bytes.now ≡ opened bytes.now) (λ _. blank_bytes ≡ opened bytes.now) }
         ensures lent { IfOk result (λ book. book.bytes ≡ bytes.entry) }
     {
         let layout = check(bytes)?;
@@ -42,7 +44,7 @@ impl<'a> Book<'a> {
 
     /// The book with task 1 alone, at level 4, without instructions or steps.
     #[tactic(auto, using(crate::proofs::Clean::blank_clean))]
-    fn blank() -> Book<'a>
+    pub fn blank() -> Book<'a>
         ensures { result.bytes.now ≡ blank_bytes }
     {
         Book {

@@ -62,6 +62,7 @@ fn blank(rt: HostRuntime) -> Result<(), Fail> {
     assert!(rt; book.registered(1) && !book.registered(2));
     assert!(rt; book.level(1) == 4 && book.script_length(1) == 0 && book.row(1, 0).is_none());
     assert!(rt; Book::open(b"").level(1) == 4);
+    assert!(rt; Book::blank().level(1) == 4);
     Ok(())
 }
 
