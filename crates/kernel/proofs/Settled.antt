@@ -1,20 +1,23 @@
 -- From what a call did to what comes back from it.
 use Rattle.std.proofs.Common.{◌≡◌, ℕ, ◌+◌, ◌≤◌, Bool, true, false, cond, not, ltb, List, [], ◌∷◌, ◌++◌, length, filter, Option, sym, refl, ap, ◌∙◌, subst, arith}
-use Rattle.std.proofs.lemmas.Bool.{cond-false, le-ltb}
-use Rattle.std.proofs.lemmas.List.{length-append}
+use Rattle.std.proofs.lemmas.Bool.{both_ways, cond-true, cond-false, le-ltb}
+use Rattle.std.proofs.lemmas.Bool.Decides.{nat_tests}
+use Rattle.std.proofs.lemmas.List.{append-nil, length-append}
 use Rattle.sheet.specs.declared.event.Event.{Event}
 use Rattle.sheet.specs.Sheets.{written}
 use Rattle.rules.specs.declared.answer.Code.{Code}
-use Rattle.rules.specs.declared.answer.Code.TheVariants.{ShortSheet}
+use Rattle.roll.specs.Model.{Model, first_in}
+use Rattle.rules.specs.declared.answer.Code.TheVariants.{ShortSheet, CoilRange}
 use Rattle.rules.specs.declared.answer.Answer.{Answer}
 use Rattle.rules.specs.declared.call.Call.{Call}
 use Rattle.rules.specs.declared.call.Call.TheVariants.{Macro as Issued, Tick, Coil}
 use Rattle.rules.specs.State.{Setup, State, Station, numbered, running}
+use Rattle.rules.specs.Fields.{task_field}
 use Rattle.rules.specs.Effects.{Effect}
 use Rattle.rules.specs.Refusals.{Step, turn, settled, refused}
 use Rattle.rules.specs.Calls.{called, Comes, Performed}
 use Rattle.kernel.specs.declared.effect.Effect.{Effect as Made}
-use Rattle.kernel.specs.Obeys.{Did, worked}
+use Rattle.kernel.specs.Obeys.{Did, Stays, coil_out_of_range, worked}
 
 -- the effect e was done, and then the turn was told behind its events
 pub settled_comes : {before mid after : Station} {given sheet left : List Event} {made : Made} {a : Answer} {code : Code} {e : Effect} (was : Option ℕ) →
@@ -41,18 +44,54 @@ settled_comes {before} {mid} {after} {given} {sheet} {left} {made} {a} {code} {e
       sheet = told e.told given so_far did.sheet ∙ ap (λ (l : List Event). written (e.told ++ l) given) turned;
     }
 
--- a sheet that is long enough is no cause to turn a call down
-past_sheet : (b : Setup) (s : State) (c : Call) (room : ℕ) → 100 ≤ room → worked b s c ≡ called b s c room
-past_sheet b s (Issued m) room long = sym (cond-false (ltb room 100) (refused s ShortSheet) (worked b s (Issued m)) (le-ltb room 100 long))
-past_sheet b s Tick room long = sym (cond-false (ltb room 100) (refused s ShortSheet) (worked b s Tick) (le-ltb room 100 long))
-past_sheet b s (Coil t) room long = sym (cond-false (ltb room 100) (refused s ShortSheet) (worked b s (Coil t)) (le-ltb room 100 long))
+no_turn : (n : ℕ) → turn n false n ≡ []
+no_turn n = grind (arith, nat_tests)
 
--- what comes back from a call with a sheet that is long enough, on a station that is the same
-pub performed : {before before' after : Station} {given left : List Event} {a : Answer} {k : Step} (c : Call) → before ≡ before' → 100 ≤ length given →
+-- the effect e was done, and no other task can have the processor, so that there is no turn to tell
+pub kept_comes : {before mid : Station} {given sheet : List Event} {made : Made} {code : Code} {e : Effect} →
+    Did code e before given mid made sheet → made.turning ≡ false → Comes (settled before.state code e) before given mid made.answer sheet
+kept_comes {before} {mid} {given} {sheet} {made} {code} {e} did closed =
+    let stays : Stays false e before = subst (λ (b : Bool). Stays b e before) closed did.stays in
+    let t : List Event = turn (running before.state.tasks) e.over (running e.state.tasks) in
+    let none : t ≡ [] =
+    ap (λ (o : Bool). turn (running before.state.tasks) o (running e.state.tasks)) stays.0
+    ∙ ap (λ (m : Model). turn (running before.state.tasks) false (numbered (first_in m))) stays.1
+    ∙ no_turn (running before.state.tasks) in
+    let all : e.told ≡ e.told ++ t = sym (ap (λ (l : List Event). e.told ++ l) none ∙ append-nil e.told) in
+    record {
+      setup = did.setup;
+      state = did.state;
+      answer = did.answer ∙ ap (λ (l : List Event). let r : Answer = record { code = code; told = length l; factor = e.factor } in r) all;
+      sheet = did.sheet ∙ ap (λ (l : List Event). written l given) all;
+    }
+
+-- a sheet that is long enough is no cause to turn a call down
+long_sheet : (s : State) (k : Step) (room : ℕ) → 100 ≤ room → k ≡ cond (ltb room 100) (refused s ShortSheet) k
+long_sheet s k room long = sym (cond-false (ltb room 100) (refused s ShortSheet) k (le-ltb room 100 long))
+
+-- nor is the range of a call that is no coil out of range
+past_checks : (b : Setup) (s : State) (c : Call) (room : ℕ) → 100 ≤ room → coil_out_of_range c ≡ false → worked b s c ≡ called b s c room
+past_checks b s (Issued m) room long e = long_sheet s (worked b s (Issued m)) room long
+past_checks b s Tick room long e = long_sheet s (worked b s Tick) room long
+past_checks b s (Coil t) room long e = sym (cond-false (not (task_field t)) (refused s CoilRange) (worked b s (Coil t)) e) ∙ long_sheet s _ room long
+
+-- what comes back from a call with a sheet that is long enough, and which is no coil out of range, on a station that is the same
+pub performed : {before before' after : Station} {given left : List Event} {a : Answer} {k : Step} (c : Call) → before ≡ before' → 100 ≤ length given → coil_out_of_range c ≡ false →
     k ≡ worked before.setup before.state c → Comes k before given after a left → Performed before' c given after a left
-performed {before} {before'} {after} {given} {left} {a} {k} c same long step comes =
+performed {before} {before'} {after} {given} {left} {a} {k} c same long fits step comes =
     subst (λ (x : Station). Performed x c given after a left) same
-    (subst (λ (x : Step). Comes x before given after a left) (step ∙ past_sheet before.setup before.state c (length given) long) comes)
+    (subst (λ (x : Step). Comes x before given after a left) (step ∙ past_checks before.setup before.state c (length given) long fits) comes)
+
+-- and from a coil out of range
+coil_called : (b : Setup) (s : State) (c : Call) (room : ℕ) → 100 ≤ room → coil_out_of_range c ≡ true → refused s CoilRange ≡ called b s c room
+coil_called b s (Issued m) room long e = absurd (both_ways _ refl e)
+coil_called b s Tick room long e = absurd (both_ways _ refl e)
+coil_called b s (Coil t) room long e = sym (cond-true (not (task_field t)) (refused s CoilRange) (worked b s (Coil t)) e) ∙ long_sheet s _ room long
+
+pub coil_performed : {before after : Station} {given left : List Event} {a : Answer} (c : Call) → 100 ≤ length given → coil_out_of_range c ≡ true →
+    Comes (refused before.state CoilRange) before given after a left → Performed before c given after a left
+coil_performed {before} {after} {given} {left} {a} c long out comes =
+    subst (λ (x : Step). Comes x before given after a left) (coil_called before.setup before.state c (length given) long out) comes
 
 -- a removal that takes nothing leaves what there was
 pub none_taken : {P : Type 0} (m : P → Bool) (ps : List P) → length (filter m ps) ≡ 0 → filter (λ p. not (m p)) ps ≡ ps

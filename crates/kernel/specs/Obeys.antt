@@ -1,6 +1,6 @@
 -- What is left to say of a call once its sheet is found long enough: what it did, before the turn is told, or what it
 -- is answered where it is turned down.
-use Rattle.std.specs.Prelude.{◌≡◌, ℕ, ◌≤◌, List, [], ◌∷◌, length, Option, Ok, Err, Result}
+use Rattle.std.specs.Prelude.{◌≡◌, ℕ, ◌≤◌, Bool, true, false, not, List, [], ◌∷◌, length, Option, Ok, Err, Result}
 use Rattle.sheet.specs.declared.event.Event.{Event}
 use Rattle.sheet.specs.Sheets.{written}
 use Rattle.rules.specs.declared.answer.Answer.{Answer}
@@ -10,10 +10,16 @@ use Rattle.rules.specs.declared.call.Call.{Call}
 use Rattle.rules.specs.declared.call.Call.TheVariants.{Macro as Issued, Tick, Coil}
 use Rattle.rules.specs.declared.call.Macro.{Macro}
 use Rattle.rules.specs.State.{Setup, State, Station}
+use Rattle.rules.specs.Fields.{task_field}
 use Rattle.rules.specs.Effects.{Effect, starting, obeyed}
-use Rattle.rules.specs.Refusals.{Step, settled, Check, idle, bad_field, bad_coil, unregistered, dormant, two_starts, macro_checks}
+use Rattle.rules.specs.Refusals.{Step, settled, Check, idle, bad_field, unregistered, dormant, two_starts, macro_checks}
 use Rattle.rules.specs.Calls.{answered, effect, Comes}
 use Rattle.kernel.specs.declared.effect.Effect.{Effect as Made}
+
+-- Where no other task can have the processor after the effect e, it has left all starts and holds as they were.
+abbrev pub Stays : Bool → Effect → Station → Type 0
+Stays true e before = Unit {0}
+Stays false e before = (e.over ≡ false) × (e.state.tasks.roll ≡ before.state.tasks.roll)
 
 -- The effect e was done: the station after it, the answer so far, and the sheet, which has the events of the effect at
 -- its front and room for the turn behind them.
@@ -22,6 +28,7 @@ pub record Did (code : Code) (e : Effect) (before : Station) (given : List Event
   pub state : after.state ≡ e.state
   pub answer : made.answer ≡ record { code = code; told = length e.told; factor = e.factor }
   pub over : made.over ≡ e.over
+  pub stays : Stays made.turning e before
   pub sheet : left ≡ written e.told given
   pub bound : made.answer.told ≤ 96
 
@@ -50,13 +57,19 @@ start_checks b s t = unregistered b s t ∷ (dormant b s t ∷ (two_starts b s t
 abbrev pub Begins : Station → ℕ → Option ℕ → List Event → Station → Result Made Answer → List Event → Type 0
 Begins before t o = Passes (start_checks before.setup before.state t) (starting before.state t o) before
 
--- the checks of a call behind that of its sheet
+-- a coil whose task is out of range
+abbrev pub coil_out_of_range : Call → Bool
+coil_out_of_range (Issued m) = false
+coil_out_of_range Tick = false
+coil_out_of_range (Coil t) = not (task_field t)
+
+-- the checks of a call behind those of its sheet and of the range of a coil
 abbrev pub later_checks : Setup → State → Call → List Check
 later_checks b s (Issued m) = idle b s ∷ (bad_field b s m ∷ macro_checks b s m)
 later_checks b s Tick = []
-later_checks b s (Coil t) = bad_coil b s t ∷ start_checks b s t
+later_checks b s (Coil t) = start_checks b s t
 
--- what comes back from a call whose sheet is long enough
+-- what comes back from a call whose sheet is long enough, and which is no coil out of range
 abbrev pub worked : Setup → State → Call → Step
 worked b s c = answered (later_checks b s c) (settled s Done (effect b s c))
 

@@ -1,22 +1,24 @@
 //! What a call did, before the turn is told.
 
-ghost use Rattle.std.specs.Prelude.{◌≡◌, false, if◌then◌else◌, Ok, Err};
+ghost use Rattle.std.specs.Prelude.{◌≡◌, true, false, if◌then◌else◌, Ok, Err};
 ghost use Rattle.rules.specs.declared.answer.Code.TheVariants.{Done};
 
 use rules::{Answer, Code};
 
-// The answer so far, and whether the start that had the processor is over. The events that the answer counts stand at
-// the front of the sheet.
+// The answer so far, whether the start that had the processor is over, and whether another task may have it now. Where
+// nothing was touched that decides it, none has, and nobody looks again. The events that the answer counts stand at the
+// front of the sheet.
 #[derive(Clone, Copy)]
 pub struct Effect {
     pub answer: Answer,
     pub over: bool,
+    pub turning: bool,
 }
 
 impl Effect {
-    // What is obeyed and tells so many events.
+    // What is obeyed and tells so many events, after which another task may have the processor.
     pub(crate) fn telling(told: usize) -> Effect
-        ensures { result ≡ record { answer = record { code = Done; told = told; factor = 0 }; over = false } }
+        ensures { result ≡ record { answer = record { code = Done; told = told; factor = 0 }; over = false; turning = true } }
     {
         Effect {
             answer: Answer {
@@ -24,14 +26,19 @@ impl Effect {
                 ..Answer::done()
             },
             over: false,
+            turning: true,
         }
     }
 
-    // What is obeyed and tells nothing of its own.
+    // What is obeyed, tells nothing, and touches nothing that decides who has the processor.
     pub(crate) fn quiet() -> Effect
-        ensures { result ≡ record { answer = record { code = Done; told = 0; factor = 0 }; over = false } }
+        ensures { result ≡ record { answer = record { code = Done; told = 0; factor = 0 }; over = false; turning = false } }
     {
-        Effect::telling(0)
+        Effect {
+            answer: Answer::done(),
+            over: false,
+            turning: false,
+        }
     }
 }
 

@@ -8,9 +8,9 @@ ghost use Rattle.rules.specs.Fields.{in_range};
 ghost use Rattle.rules.specs.Effects.{cutting};
 ghost use Rattle.rules.specs.Calls.{Performed};
 ghost use Rattle.kernel.specs.Views.{seen};
-ghost use Rattle.kernel.specs.Obeys.{Did, Obeys, Works};
+ghost use Rattle.kernel.specs.Obeys.{Did, Obeys, Works, coil_out_of_range};
 
-use crate::effect::{Effect, check};
+use crate::effect::Effect;
 use crate::kernel::Kernel;
 use numbers::{Factor, Level, Task};
 use roll::Roll;
@@ -29,6 +29,7 @@ impl<R: Roll> Kernel<R> {
                 ..Answer::silent(Code::FieldRange)
             },
             over: true,
+            turning: true,
         }
     }
 
@@ -88,7 +89,7 @@ impl<R: Roll> Kernel<R> {
         self.obey(m, issuer, sheet)
     }
 
-    // What a call does on a sheet that is long enough, while `was` has the processor.
+    // What a call does on a sheet that is long enough, while `was` has the processor. A coil is in range here.
     fn work(
         &mut self,
         call: Call,
@@ -101,10 +102,7 @@ impl<R: Roll> Kernel<R> {
         match call {
             Call::Macro(m) => self.issue(m, was, sheet),
             Call::Tick => Ok(Effect::telling(self.beat(sheet))),
-            Call::Coil { task } => {
-                check(!is_task_field(task), Code::CoilRange)?;
-                self.begin(task, None, sheet)
-            }
+            Call::Coil { task } => self.begin(task, None, sheet),
         }
     }
 
@@ -115,11 +113,22 @@ impl<R: Roll> Kernel<R> {
         let Some(front) = sheet.first_chunk_mut::<LEAST_SHEET>() else {
             return Answer::silent(Code::ShortSheet);
         };
+        if is_coil_out_of_range(call) {
+            return Answer::silent(Code::CoilRange);
+        }
         let was = self.tasks.first();
         // Copied through a reference: the borrow checker copies no number with a range that is passed by value.
         match self.work(call, was.as_ref().copied(), front) {
-            Ok(effect) => self.settle(was, effect, front),
+            Ok(effect) if effect.turning => self.settle(was, effect, front),
+            Ok(effect) => effect.answer,
             Err(answer) => answer,
         }
     }
+}
+
+// Whether a call is a coil whose task is out of range. This alone is asked before anybody looks who has the processor.
+fn is_coil_out_of_range(call: Call) -> bool
+    ensures { result ≡ coil_out_of_range call }
+{
+    matches!(call, Call::Coil { task } if !is_task_field(task))
 }

@@ -39,7 +39,7 @@ impl<R: Roll> Kernel<R> {
     {
         let task = self.released(task)?;
         self.tasks.set_level(task, level);
-        Ok(Effect::quiet())
+        Ok(Effect::telling(0))
     }
 
     // A factor of a task is set.
@@ -62,7 +62,7 @@ impl<R: Roll> Kernel<R> {
                 factor,
                 ..Answer::done()
             },
-            over: false,
+            ..Effect::quiet()
         }
     }
 
@@ -76,6 +76,6 @@ impl<R: Roll> Kernel<R> {
         self.tasks
             .set_hold(task, held)
             .map_err(|_| Code::HoldStands)?;
-        Ok(Effect::quiet())
+        Ok(Effect::telling(0))
     }
 }

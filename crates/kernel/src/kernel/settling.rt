@@ -30,7 +30,7 @@ impl<R: Roll> Kernel<R> {
         ensures long { length sheet.new ≡ 100 }
         ensures sheet { (front given : List Event) → effect.answer.told ≡ length front → sheet.old ≡ written front given → sheet.new ≡ written (front ++ turn (numbered was) effect.over (running (seen R.Roll.meaning R.Roll.LEVER self.old).state.tasks)) given }
     {
-        let Effect { answer, over } = effect;
+        let Effect { answer, over, .. } = effect;
         let turn = self.tasks.tell_turn(was, over, &mut sheet[answer.told..]);
         Answer {
             told: answer.told + turn,

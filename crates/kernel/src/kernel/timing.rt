@@ -45,7 +45,7 @@ impl<R: Roll> Kernel<R> {
     {
         set(&mut self.timers, Timer::delay(issuer, t))?;
         self.tasks.sleep(issuer.get());
-        Ok(Effect::quiet())
+        Ok(Effect::telling(0))
     }
 
     // A timer is set for a task.
