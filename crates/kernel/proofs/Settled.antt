@@ -1,5 +1,5 @@
 -- From what a call did to what comes back from it.
-use Rattle.std.proofs.Common.{◌≡◌, ℕ, ◌+◌, ◌≤◌, Bool, true, false, cond, not, ltb, List, [], ◌∷◌, ◌++◌, length, filter, Option, sym, refl, ap, ◌∙◌, subst, arith}
+use Rattle.std.proofs.Common.{◌≡◌, ℕ, ◌+◌, ◌≤◌, Bool, true, false, cond, not, ltb, List, [], ◌∷◌, ◌++◌, length, filter, Ok, Err, None, Option, Result, sym, refl, ap, ◌∙◌, subst, arith}
 use Rattle.std.proofs.lemmas.Bool.{both_ways, cond-true, cond-false, le-ltb}
 use Rattle.std.proofs.lemmas.Bool.Decides.{nat_tests}
 use Rattle.std.proofs.lemmas.List.{append-nil, length-append}
@@ -7,17 +7,17 @@ use Rattle.sheet.specs.declared.event.Event.{Event}
 use Rattle.sheet.specs.Sheets.{written}
 use Rattle.rules.specs.declared.answer.Code.{Code}
 use Rattle.roll.specs.Model.{Model, first_in}
-use Rattle.rules.specs.declared.answer.Code.TheVariants.{ShortSheet, CoilRange}
+use Rattle.rules.specs.declared.answer.Code.TheVariants.{Done, ShortSheet, CoilRange}
 use Rattle.rules.specs.declared.answer.Answer.{Answer}
 use Rattle.rules.specs.declared.call.Call.{Call}
 use Rattle.rules.specs.declared.call.Call.TheVariants.{Macro as Issued, Tick, Coil}
 use Rattle.rules.specs.State.{Setup, State, Station, numbered, running}
 use Rattle.rules.specs.Fields.{task_field}
-use Rattle.rules.specs.Effects.{Effect}
+use Rattle.rules.specs.Effects.{Effect, starting}
 use Rattle.rules.specs.Refusals.{Step, turn, settled, refused}
-use Rattle.rules.specs.Calls.{called, Comes, Performed}
+use Rattle.rules.specs.Calls.{answered, called, Comes, Performed}
 use Rattle.kernel.specs.declared.effect.Effect.{Effect as Made}
-use Rattle.kernel.specs.Obeys.{Did, Stays, coil_out_of_range, worked}
+use Rattle.kernel.specs.Obeys.{Did, Stays, Begins, Works, start_checks, worked, coil_out_of_range}
 
 -- the effect e was done, and then the turn was told behind its events
 pub settled_comes : {before mid after : Station} {given sheet left : List Event} {made : Made} {a : Answer} {code : Code} {e : Effect} (was : Option ℕ) →
@@ -66,32 +66,31 @@ kept_comes {before} {mid} {given} {sheet} {made} {code} {e} did closed =
     }
 
 -- a sheet that is long enough is no cause to turn a call down
-long_sheet : (s : State) (k : Step) (room : ℕ) → 100 ≤ room → k ≡ cond (ltb room 100) (refused s ShortSheet) k
-long_sheet s k room long = sym (cond-false (ltb room 100) (refused s ShortSheet) k (le-ltb room 100 long))
+past_sheet : (b : Setup) (s : State) (c : Call) (room : ℕ) → 100 ≤ room → worked b s c ≡ called b s c room
+past_sheet b s (Issued m) room long = sym (cond-false (ltb room 100) (refused s ShortSheet) (worked b s (Issued m)) (le-ltb room 100 long))
+past_sheet b s Tick room long = sym (cond-false (ltb room 100) (refused s ShortSheet) (worked b s Tick) (le-ltb room 100 long))
+past_sheet b s (Coil t) room long = sym (cond-false (ltb room 100) (refused s ShortSheet) (worked b s (Coil t)) (le-ltb room 100 long))
 
--- nor is the range of a call that is no coil out of range
-past_checks : (b : Setup) (s : State) (c : Call) (room : ℕ) → 100 ≤ room → coil_out_of_range c ≡ false → worked b s c ≡ called b s c room
-past_checks b s (Issued m) room long e = long_sheet s (worked b s (Issued m)) room long
-past_checks b s Tick room long e = long_sheet s (worked b s Tick) room long
-past_checks b s (Coil t) room long e = sym (cond-false (not (task_field t)) (refused s CoilRange) (worked b s (Coil t)) e) ∙ long_sheet s _ room long
-
--- what comes back from a call with a sheet that is long enough, and which is no coil out of range, on a station that is the same
-pub performed : {before before' after : Station} {given left : List Event} {a : Answer} {k : Step} (c : Call) → before ≡ before' → 100 ≤ length given → coil_out_of_range c ≡ false →
+-- what comes back from a call with a sheet that is long enough, on a station that is the same
+pub performed : {before before' after : Station} {given left : List Event} {a : Answer} {k : Step} (c : Call) → before ≡ before' → 100 ≤ length given →
     k ≡ worked before.setup before.state c → Comes k before given after a left → Performed before' c given after a left
-performed {before} {before'} {after} {given} {left} {a} {k} c same long fits step comes =
+performed {before} {before'} {after} {given} {left} {a} {k} c same long step comes =
     subst (λ (x : Station). Performed x c given after a left) same
-    (subst (λ (x : Step). Comes x before given after a left) (step ∙ past_checks before.setup before.state c (length given) long fits) comes)
+    (subst (λ (x : Step). Comes x before given after a left) (step ∙ past_sheet before.setup before.state c (length given) long) comes)
 
--- and from a coil out of range
-coil_called : (b : Setup) (s : State) (c : Call) (room : ℕ) → 100 ≤ room → coil_out_of_range c ≡ true → refused s CoilRange ≡ called b s c room
-coil_called b s (Issued m) room long e = absurd (both_ways _ refl e)
-coil_called b s Tick room long e = absurd (both_ways _ refl e)
-coil_called b s (Coil t) room long e = sym (cond-true (not (task_field t)) (refused s CoilRange) (worked b s (Coil t)) e) ∙ long_sheet s _ room long
+-- a coil out of range is turned down
+pub coil_refused : (b : Setup) (s : State) (c : Call) → coil_out_of_range c ≡ true → refused s CoilRange ≡ worked b s c
+coil_refused b s (Issued m) e = absurd (both_ways _ refl e)
+coil_refused b s Tick e = absurd (both_ways _ refl e)
+coil_refused b s (Coil t) e = sym (cond-true (not (task_field t)) (refused s CoilRange) (answered (start_checks b s t) (settled s Done (starting s t None))) e)
 
-pub coil_performed : {before after : Station} {given left : List Event} {a : Answer} (c : Call) → 100 ≤ length given → coil_out_of_range c ≡ true →
-    Comes (refused before.state CoilRange) before given after a left → Performed before c given after a left
-coil_performed {before} {after} {given} {left} {a} c long out comes =
-    subst (λ (x : Step). Comes x before given after a left) (coil_called before.setup before.state c (length given) long out) comes
+-- and from one in range comes back what comes back from a start without a factor
+coil_begun : (b : Setup) (s : State) (t : ℕ) → coil_out_of_range (Coil t) ≡ false → answered (start_checks b s t) (settled s Done (starting s t None)) ≡ worked b s (Coil t)
+coil_begun b s t e = sym (cond-false (not (task_field t)) (refused s CoilRange) (answered (start_checks b s t) (settled s Done (starting s t None))) e)
+
+pub coil_works : (before after : Station) (t : ℕ) (given left : List Event) → coil_out_of_range (Coil t) ≡ false → (o : Result Made Answer) → Begins before t None given after o left → Works before (Coil t) given after o left
+coil_works before after t given left e (Ok made) h = (Done, starting before.state t None, h.0 ∙ coil_begun before.setup before.state t e, h.1)
+coil_works before after t given left e (Err a) h = subst (λ (k : Step). Comes k before given after a left) (coil_begun before.setup before.state t e) h
 
 -- a removal that takes nothing leaves what there was
 pub none_taken : {P : Type 0} (m : P → Bool) (ps : List P) → length (filter m ps) ≡ 0 → filter (λ p. not (m p)) ps ≡ ps

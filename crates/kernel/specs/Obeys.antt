@@ -12,7 +12,7 @@ use Rattle.rules.specs.declared.call.Macro.{Macro}
 use Rattle.rules.specs.State.{Setup, State, Station}
 use Rattle.rules.specs.Fields.{task_field}
 use Rattle.rules.specs.Effects.{Effect, starting, obeyed}
-use Rattle.rules.specs.Refusals.{Step, settled, Check, idle, bad_field, unregistered, dormant, two_starts, macro_checks}
+use Rattle.rules.specs.Refusals.{Step, settled, Check, idle, bad_field, bad_coil, unregistered, dormant, two_starts, macro_checks}
 use Rattle.rules.specs.Calls.{answered, effect, Comes}
 use Rattle.kernel.specs.declared.effect.Effect.{Effect as Made}
 
@@ -57,21 +57,21 @@ start_checks b s t = unregistered b s t ∷ (dormant b s t ∷ (two_starts b s t
 abbrev pub Begins : Station → ℕ → Option ℕ → List Event → Station → Result Made Answer → List Event → Type 0
 Begins before t o = Passes (start_checks before.setup before.state t) (starting before.state t o) before
 
--- a coil whose task is out of range
-abbrev pub coil_out_of_range : Call → Bool
-coil_out_of_range (Issued m) = false
-coil_out_of_range Tick = false
-coil_out_of_range (Coil t) = not (task_field t)
-
--- the checks of a call behind those of its sheet and of the range of a coil
+-- the checks of a call behind that of its sheet
 abbrev pub later_checks : Setup → State → Call → List Check
 later_checks b s (Issued m) = idle b s ∷ (bad_field b s m ∷ macro_checks b s m)
 later_checks b s Tick = []
-later_checks b s (Coil t) = start_checks b s t
+later_checks b s (Coil t) = bad_coil b s t ∷ start_checks b s t
 
--- what comes back from a call whose sheet is long enough, and which is no coil out of range
+-- what comes back from a call whose sheet is long enough
 abbrev pub worked : Setup → State → Call → Step
 worked b s c = answered (later_checks b s c) (settled s Done (effect b s c))
 
 abbrev pub Works : Station → Call → List Event → Station → Result Made Answer → List Event → Type 0
 Works before c = Brings (worked before.setup before.state c) before
+
+-- a coil whose task is out of range
+abbrev pub coil_out_of_range : Call → Bool
+coil_out_of_range (Issued m) = false
+coil_out_of_range Tick = false
+coil_out_of_range (Coil t) = not (task_field t)

@@ -1,6 +1,6 @@
 //! From a call to what is done: the checks that are common to all, and then each macro's own.
 
-ghost use Rattle.std.specs.Prelude.{◌≡◌, true};
+ghost use Rattle.std.specs.Prelude.{◌≡◌, true, false};
 ghost use Rattle.rules.specs.declared.answer.Code.TheVariants.{FieldRange as FieldRangeOf};
 ghost use Rattle.rules.specs.declared.call.Call.TheVariants.{Macro as MacroOf};
 ghost use Rattle.roll.specs.Model.{first_in};
@@ -89,7 +89,7 @@ impl<R: Roll> Kernel<R> {
         self.obey(m, issuer, sheet)
     }
 
-    // What a call does on a sheet that is long enough, while `was` has the processor. A coil is in range here.
+    // What a call does on a sheet that is long enough, while `was` has the processor.
     fn work(
         &mut self,
         call: Call,
@@ -97,6 +97,7 @@ impl<R: Roll> Kernel<R> {
         sheet: &mut [Event; LEAST_SHEET],
     ) -> Result<Effect, Answer>
         requires was { was ≡ first_in (seen R.Roll.meaning R.Roll.LEVER self.old).state.tasks.roll }
+        requires range { coil_out_of_range call ≡ false }
         ensures { Works (seen R.Roll.meaning R.Roll.LEVER self.old) call sheet.old (seen R.Roll.meaning R.Roll.LEVER self.new) result sheet.new }
     {
         match call {
