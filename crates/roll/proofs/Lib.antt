@@ -6,3 +6,4 @@ pub mod Sleeps
 pub mod Tables
 pub mod Emptied
 pub mod Verdicts
+pub mod Clears
