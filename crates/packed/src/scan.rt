@@ -19,7 +19,7 @@ pub(crate) fn tally(es: &[Entry], task: u8) -> u8
     requires { count_of task es.now < 256 }
     ensures { result ≡ count_of task es.now }
 {
-    es.iter().filter(|e| e.task == task).count() as u8
+    es.iter().map(|e| u8::from(e.task == task)).sum()
 }
 
 // The task of the oldest entry with the best level, of the awake ones that are the oldest of their task.
