@@ -1,8 +1,9 @@
 -- How many stamps are smaller than one.
-use Rattle.std.proofs.Common.{◌≡◌, ℕ, suc, ◌+◌, ◌*◌, ◌<◌, ◌≤◌, cond, eqb, ltb, List, [], ◌∷◌, ◌++◌, length, sym, refl, ap, ◌∙◌, inl, inr, append_assoc, arith}
-use Rattle.std.specs.List.{count_by}
+use Rattle.std.proofs.Common.{◌≡◌, ℕ, suc, ◌+◌, ◌*◌, ◌<◌, ◌≤◌, Bool, true, false, cond, eqb, ltb, List, [], ◌∷◌, ◌++◌, length, sym, refl, ap, ◌∙◌, inl, inr, append_assoc, arith}
+use mir.Val.{bool_byte}
+use Rattle.std.specs.List.{sum_by}
 use Rattle.std.proofs.lemmas.Bool.Decides.{nat_tests}
-use Rattle.std.proofs.lemmas.List.Recursion.{is_count_by}
+use Rattle.std.proofs.lemmas.List.Recursion.{is_sum_by}
 use Rattle.std.proofs.lemmas.List.{length-append, append-nil}
 use Rattle.std.proofs.lemmas.Bool.{cases_order, eq-eqb, ne_eqb}
 use Rattle.stamped.specs.declared.slot.Slot.{Slot}
@@ -10,8 +11,12 @@ use Rattle.stamped.specs.declared.slot.Slot.TheVariants.{Empty, One, Two}
 use Rattle.stamped.specs.Numbers.{below, times_in, stamps_of, stamps_in}
 
 -- ---- numbers
-pub below_is : (s : ℕ) (xs : List ℕ) → below s xs ≡ count_by (λ x. ltb x s) xs
-below_is s = is_count_by (below s) (λ x. ltb x s) refl (λ x xs. let z : suc (below s xs) ≡ 1 + below s xs = omega arith in ap (λ n. cond (ltb x s) n (below s xs)) z)
+pub below_is : (s : ℕ) (xs : List ℕ) → sum_by (λ x. bool_byte (ltb x s)) xs ≡ below s xs
+below_is s xs = sym (is_sum_by (below s) (λ x. bool_byte (ltb x s)) refl (λ x xs. one_more (ltb x s) (below s xs)) xs)
+  where
+    one_more : (b : Bool) (n : ℕ) → cond b (suc n) n ≡ bool_byte b + n
+    one_more true n = omega arith
+    one_more false n = omega arith
 
 pub below_none : (xs : List ℕ) → below 0 xs ≡ 0
 below_none [] = refl

@@ -40,6 +40,6 @@ impl Renumbering {
         ensures order { (s : ℕ) → 0 < times_in s (noted self.now) → s < stamp → below s (noted self.now) < result }
     {
         let noted = &self.stamps[0..self.len];
-        noted.iter().filter(|other| **other < stamp).count() as u16
+        noted.iter().map(|other| u16::from(*other < stamp)).sum()
     }
 }
