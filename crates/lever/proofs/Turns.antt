@@ -31,6 +31,11 @@ module _ (m : Model) (free : m.held ≡ none) (t : ℕ) (first : Some t ≡ firs
   pub turn_same : (h : ℕ → Bool) → h t ≡ true → first_of h (after_sleep t m).entries ≡ first_of h m.entries
   turn_same h p = first_slept h t m.entries p
 
+-- where the first is not held, it is the first of those that are not
+pub turn_first : (m : Model) → m.held ≡ none → (h : ℕ → Bool) (o : Option ℕ) → o ≡ first_in m → ((t : ℕ) → o ≡ Some t → h t ≡ false) → o ≡ first_of h m.entries
+turn_first m free h None p q = turn_none m free h p
+turn_first m free h (Some t) p q = turn_some m free t p h (q t refl)
+
 -- ---- rousing what was put to sleep
 pub roused_push : (ts : List ℕ) (t : ℕ) (m : Model) → roused (ts ++ t ∷ []) m ≡ roused ts (after_rouse t m)
 roused_push [] t m = refl

@@ -15,9 +15,14 @@ pub(crate) fn first<R: Roll>(roll: &mut R, held: &Holds) -> Option<u8>
     ensures answer { result ≡ first_of (members held.now) (R.Roll.meaning roll.old).entries }
     ensures after { R.Roll.meaning roll.new ≡ R.Roll.meaning roll.old }
 {
+    let mut found = roll.first();
+    // Where the first is not held there is nothing to note, and no room is made for it.
+    let free = found.is_none_or(|task| !held.has(task));
+    if free {
+        return found;
+    }
     // Each turn puts one more entry to sleep, and a roll has at most 254.
     let mut slept = ArrayVec::<u8, 254>::new();
-    let mut found = roll.first();
     while let Some(task) = found {
         if !held.has(task) {
             break;

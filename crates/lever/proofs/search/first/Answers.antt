@@ -1,17 +1,22 @@
-use Rattle.std.proofs.Common.{◌≡◌, ◌<◌, ◌≤◌, [], ◌∷◌, ◌++◌, Some, sym, ap, ◌∙◌, subst, arith}
+use Rattle.std.proofs.Common.{◌≡◌, ◌<◌, ◌≤◌, [], ◌∷◌, ◌++◌, Some, sym, ap, ◌∙◌, subst, arith, rules}
 use Rattle.roll.specs.Firsts.{first_of}
 use Rattle.roll.specs.Model.{Model, Sound, first_in, after_sleep}
 use Rattle.roll.proofs.Sleeps.{awakes, awakes_le}
 use Rattle.roll.proofs.Sounds.{sound_length}
 use Rattle.lever.specs.Meaning.{members}
 use Rattle.lever.specs.Searches.{roused}
-use Rattle.lever.proofs.Turns.{turn_none, turn_one, turn_some, turn_same, slept_more}
+use Rattle.lever.proofs.Turns.{turn_first, turn_none, turn_one, turn_some, turn_same, slept_more}
 use Rattle.lever.proofs.search.first.Goals as goal
 use Rattle.lever.proofs.search.first.Goals.{in-Some+then-not-has, in_default}
 
 -- at most 254 entries are awake
 few_awake : (m : Model) → Sound m → awakes m.entries ≤ 254
 few_awake m s = let n = awakes_le m.entries in let k = sound_length m.entries s.0 in omega arith
+
+pub returns-then-free-clause-answer : goal.returns-then-free-clause-answer
+returns-then-free-clause-answer g c =
+    let p = g.met.R.Roll.free c.args.roll.now c.requires in
+    turn_first (g.R.Roll.meaning c.args.roll.now) p (members c.args.held.now) c.first-found.result c.first-found.ensures.answer (λ t e. let k = rw e at c.is_none_or-free.ensures in let v = c.if-free.true in search rules)
 
 pub push-requires : goal.push-requires
 push-requires g c =
