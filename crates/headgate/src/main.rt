@@ -3,31 +3,43 @@
 
 #![tactic(auto)]
 
-ghost use Rattle.std.specs.Prelude.{◌≡◌, take, IfOk, IfSome};
+ghost use Rattle.std.specs.Prelude.{◌≡◌, ◌≤◌, take, IfOk, IfSome};
 
 mod console;
 
 use console::Console;
 use lever::Lever;
 use packed::Packed;
-use std::alloc::Global;
 use std::io;
-use std::io::Read;
+use std::io::{ErrorKind, Read};
 
 // One byte more than the largest book has.
-const MOST: u64 = 65_536;
+const MOST: usize = 65_536;
 
-// Reads an input to its end, or as much of it as tells a book from what is too long to be one.
-fn read_book<R: Read + Drop>(input: R, heap: Global) -> io::Result<Vec<u8>>
-    ensures { IfOk result (λ bytes. IfSome (R.Read.remaining input) (λ all. bytes.items ≡ take 65536 all)) }
+// Reads an input to its end, or as much of it as tells a book from what is too long to be one; answers how many bytes
+// came. A read that was interrupted is made again, and the tries are counted, since nothing says that an input ends.
+fn read_book<R: Read + Drop>(mut input: R, bytes: &mut [u8; MOST]) -> io::Result<usize>
+    ensures bytes { IfOk result (λ n. IfSome (R.Read.remaining input) (λ all. take n bytes.new ≡ take 65536 all)) }
+    ensures room { IfOk result (λ n. n ≤ 65536) }
 {
-    let mut bytes = Vec::new(heap);
-    input.take(MOST).read_to_end(&mut bytes)?;
-    Ok(bytes)
+    let mut len = 0;
+    for _ in 0..u64::MAX {
+        match input.read(&mut bytes[len..]) {
+            Ok(0) => return Ok(len),
+            Ok(more) => len += more,
+            Err(e) => {
+                if e.kind() != ErrorKind::Interrupted {
+                    return Err(e);
+                }
+            }
+        }
+    }
+    Err(ErrorKind::TimedOut.into())
 }
 
 fn main(rt: HostRuntime) -> io::Result<()> {
-    let bytes = read_book(rt.stdin(), rt.alloc())?;
+    let mut bytes = [0; MOST];
+    let len = read_book(rt.stdin(), &mut bytes)?;
     let mut console = Console { out: rt.stdout() };
-    runner::run(Lever::new(Packed::new()), bytes.as_slice(), &mut console)
+    runner::run(Lever::new(Packed::new()), &bytes[..len], &mut console)
 }
