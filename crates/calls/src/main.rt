@@ -42,7 +42,7 @@ fn make_calls<R: Roll>(
     let heap = rt.alloc();
     let mut out = rt.stdout();
     for (n, line) in text.split(|b| *b == b'\n').enumerate().skip(1) {
-        let told = match read_order(heap, line)? {
+        let told = match read_order(line) {
             Some(order) => {
                 let room = order.room.min(sheet.len());
                 let answer = live.perform(order.call, &mut sheet[..room]);

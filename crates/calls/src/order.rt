@@ -1,9 +1,8 @@
 //! From a line to a call and the length of its sheet.
 
 use crate::text::number;
+use arrayvec::ArrayVec;
 use rules::{Call, LEAST_SHEET, Macro};
-use std::alloc::{AllocError, Global};
-use std::str;
 
 // The longest sheet that can be asked for.
 pub const LONGEST_SHEET: usize = 200;
@@ -17,16 +16,13 @@ pub struct Order {
     pub call: Call,
 }
 
-// The order in a line, or none where the line is no call.
-pub fn read_order(heap: Global, line: &[u8]) -> Result<Option<Order>, AllocError> {
-    let Ok(line) = str::from_utf8(line) else {
-        return Ok(None);
-    };
-    let words: Vec<&str> = line.split(' ').take(MOST_WORDS).collect(heap)?;
-    Ok(order_of(words.as_slice()))
-}
-
-fn order_of(words: &[&str]) -> Option<Order> {
+// The order in a line, or none where the line is no call. Its words take no heap, since only so many are looked at.
+pub fn read_order(line: &[u8]) -> Option<Order> {
+    let mut words = ArrayVec::<&[u8], MOST_WORDS>::new();
+    words
+        .extend(line.split(|b| *b == b' ').take(MOST_WORDS))
+        .ok()?;
+    let words = words.as_slice();
     let (first, others) = words.split_first()?;
     let (room, call) = match number(first) {
         Some(room) => (room, others),
@@ -41,34 +37,34 @@ fn order_of(words: &[&str]) -> Option<Order> {
     })
 }
 
-fn call_of(words: &[&str]) -> Option<Call> {
+fn call_of(words: &[&[u8]]) -> Option<Call> {
     Some(match words {
-        ["tick"] => Call::Tick,
-        ["coil", task] => Call::Coil {
+        [b"tick"] => Call::Tick,
+        [b"coil", task] => Call::Coil {
             task: number(task)?,
         },
         _ => Call::Macro(macro_of(words)?),
     })
 }
 
-fn macro_of(words: &[&str]) -> Option<Macro> {
+fn macro_of(words: &[&[u8]]) -> Option<Macro> {
     Some(match words {
-        ["gfact"] => Macro::Gfact,
-        ["exit"] => Macro::Exit,
-        ["delay", t] => Macro::Delay { t: number(t)? },
-        ["stime", second] => Macro::Stime {
+        [b"gfact"] => Macro::Gfact,
+        [b"exit"] => Macro::Exit,
+        [b"delay", t] => Macro::Delay { t: number(t)? },
+        [b"stime", second] => Macro::Stime {
             second: number(second)?,
         },
-        ["rleas", task] => Macro::Rleas {
+        [b"rleas", task] => Macro::Rleas {
             task: number(task)?,
         },
-        ["abort", task] => Macro::Abort {
+        [b"abort", task] => Macro::Abort {
             task: number(task)?,
         },
-        ["susp", task] => Macro::Susp {
+        [b"susp", task] => Macro::Susp {
             task: number(task)?,
         },
-        ["rsum", task] => Macro::Rsum {
+        [b"rsum", task] => Macro::Rsum {
             task: number(task)?,
         },
         [name, task, fields @ ..] => longer_macro(name, number(task)?, fields)?,
@@ -77,35 +73,35 @@ fn macro_of(words: &[&str]) -> Option<Macro> {
 }
 
 // The macros that have more fields behind the task.
-fn longer_macro(name: &str, task: u8, fields: &[&str]) -> Option<Macro> {
+fn longer_macro(name: &[u8], task: u8, fields: &[&[u8]]) -> Option<Macro> {
     Some(match (name, fields) {
-        ("queue", [factor]) => Macro::Queue {
+        (b"queue", [factor]) => Macro::Queue {
             task,
             factor: number(factor)?,
         },
-        ("ctime", [factor]) => Macro::Ctime {
+        (b"ctime", [factor]) => Macro::Ctime {
             task,
             factor: number(factor)?,
         },
-        ("chap", [level]) => Macro::Chap {
+        (b"chap", [level]) => Macro::Chap {
             task,
             level: number(level)?,
         },
-        ("sfact", [factor]) => Macro::Sfact {
+        (b"sfact", [factor]) => Macro::Sfact {
             task,
             factor: number(factor)?,
         },
-        ("cwake", [factor]) => Macro::Cwake {
+        (b"cwake", [factor]) => Macro::Cwake {
             task,
             factor: number(factor)?,
         },
-        ("timer", [t, cycle, factor]) => Macro::Timer {
+        (b"timer", [t, cycle, factor]) => Macro::Timer {
             task,
             t: number(t)?,
             cycle: number(cycle)?,
             factor: number(factor)?,
         },
-        ("wake", [factor, second, cycle]) => Macro::Wake {
+        (b"wake", [factor, second, cycle]) => Macro::Wake {
             task,
             factor: number(factor)?,
             second: number(second)?,

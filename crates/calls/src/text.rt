@@ -1,30 +1,32 @@
 //! Numbers and hexadecimal digits of the input.
 
-use hex::FromHexError;
+use hex::FromHex;
 use std::alloc::{AllocError, Global};
+use std::str;
 use std::str::FromStr;
 
 // The bytes that pairs of hexadecimal digits name, with spaces between the pairs as one likes; none where the line is
-// no such text.
+// no such text. Each byte goes into the one vector as soon as its pair is read.
 pub fn read_hex(heap: Global, line: &[u8]) -> Result<Option<Vec<u8>>, AllocError> {
     let mut bytes = Vec::new(heap);
     for pairs in line.split(|b| *b == b' ') {
-        match hex::decode(heap, pairs) {
-            Ok(more) => bytes.extend_from_slice(more.as_slice())?,
-            Err(FromHexError::OutOfMemory) => return Err(AllocError),
-            Err(_) => return Ok(None),
+        for pair in pairs.chunks(2) {
+            let Ok(byte) = <[u8; 1]>::from_hex(pair) else {
+                return Ok(None);
+            };
+            bytes.push(byte[0])?;
         }
     }
     Ok(Some(bytes))
 }
 
 // A decimal number of one to ten digits, without a sign.
-pub fn number<T: FromStr>(word: &str) -> Option<T>
+pub fn number<T: FromStr>(word: &[u8]) -> Option<T>
 where
     T::Err: Drop,
 {
-    if word.len() > 10 || !word.bytes().all(|b| b.is_ascii_digit()) {
+    if word.len() > 10 || !word.iter().all(|b| b.is_ascii_digit()) {
         return None;
     }
-    word.parse().ok()
+    str::from_utf8(word).ok()?.parse().ok()
 }

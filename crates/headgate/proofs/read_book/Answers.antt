@@ -57,15 +57,16 @@ loop-preserved g c =
     let room : length new ≡ 65536 - len = omega (arith, c.read.auto.buf, c.loop.invariant.0, c.loop.invariant.1) in
     let long = same_length len (65536 - len) old new within (omega (arith, c.loop.invariant.0, c.loop.invariant.1)) room ∙ c.loop.invariant.0 in
     elim c.match-read.branch [
-      in-Ok w ↦
-        let more = w.in-Ok.more in
-        let fits = w.in-Ok.ensures.bound.0 in
-        let read = Consumes-trans _ _ _ _ _ c.loop.invariant.2 w.in-Ok.ensures.bytes.0 in
-        let all = came len (65536 - len) more old new within fits in
-        let joined = subst (Consumes _ _) (sym (ap (λ n. take n (put_mid len (65536 - len) old new)) w.len-is ∙ all)) read in
-        (long, omega (arith, w.len-is, fits, room, c.loop.invariant.1), joined)
-    | in-Err+else-ne w ↦
-        let read = Consumes-kept _ _ _ _ c.loop.invariant.2 w.in-Err.ensures.bytes in
-        let kept = ap (λ n. take n (put_mid len (65536 - len) old new)) w.len-is ∙ take-put_mid_below len (65536 - len) old new len (le_refl _) within in
-        (long, omega (arith, w.len-is, c.loop.invariant.1), subst (Consumes _ _) (sym kept) read)
+      | in-Ok w ↦
+          let more = w.in-Ok.more in
+          let fits = w.in-Ok.ensures.bound.0 in
+          let read = Consumes-trans _ _ _ _ _ c.loop.invariant.2 w.in-Ok.ensures.bytes.0 in
+          let all = came len (65536 - len) more old new within fits in
+          let far : c.match-read.len ≡ len + more = omega (arith, w.len-is) in
+          let joined = subst (Consumes _ _) (sym (ap (λ n. take n (put_mid len (65536 - len) old new)) far ∙ all)) read in
+          (long, omega (arith, far, fits, room, c.loop.invariant.1), joined)
+      | in-Err+else-ne w ↦
+          let read = Consumes-kept _ _ _ _ c.loop.invariant.2 w.in-Err.ensures.bytes in
+          let kept = ap (λ n. take n (put_mid len (65536 - len) old new)) w.len-is ∙ take-put_mid_below len (65536 - len) old new len (le_refl _) within in
+          (long, omega (arith, w.len-is, c.loop.invariant.1), subst (Consumes _ _) (sym kept) read)
     ]
