@@ -1,6 +1,7 @@
 -- The front of a list that stands in memory of a fixed size.
 use Rattle.std.proofs.Common.{◌≡◌, ℕ, zero, suc, ◌+◌, ◌-◌, ◌<◌, ◌≤◌, List, [], ◌∷◌, ◌++◌, map, length, take, drop, set, sym, refl, ap, ◌∙◌, add-one, append_assoc, arith}
-use Rattle.std.specs.List.{remove}
+use Rattle.std.specs.List.{remove, copy_within}
+use Rattle.std.proofs.lemmas.List.Edits.{take-paste}
 use Rattle.std.proofs.lemmas.List.{take_at, length-map, take-take, drop-take, drop-drop, length-drop, length-take-le, length-append}
 
 module _ {X : Type 0} where
@@ -15,22 +16,16 @@ module _ {X : Type 0} where
   take_set_in (suc n) (suc i) [] y = refl
   take_set_in (suc n) (suc i) (x ∷ xs) y = ap (λ l. x ∷ l) (take_set_in n i xs y)
 
-  -- with the element at i moved behind those up to n, the front of n - 1 has lost it
-  pub moved : (xs ys zs : List X) (i n : ℕ) → i < n → n ≤ length xs → ys ≡ drop 1 (take (n - i) (drop i xs)) ++ take 1 (take (n - i) (drop i xs)) → take (n - 1) (take i xs ++ (ys ++ zs)) ≡ remove (take n xs) i
-  moved xs ys zs i n p q e =
-      let part = take (n - i) (drop i xs) in
-      let back : i + (n - i) ≡ n = omega arith in
-      let part_is : part ≡ drop i (take n xs) = sym (drop-take i (n - i) xs) ∙ ap (λ k. drop i (take k xs)) back in
-      let rest : drop 1 part ≡ drop (i + 1) (take n xs) = ap (drop 1) part_is ∙ drop-drop 1 i (take n xs) in
+  -- with those from i + 1 to n copied one place down, the front of n - 1 has lost the element at i
+  pub moved : (xs : List X) (i n : ℕ) → i < n → n ≤ length xs → take (n - 1) (copy_within xs (i + 1) n i) ≡ remove (take n xs) i
+  moved xs i n p q =
+      let k = n - (i + 1) in
+      let end : n - 1 ≡ i + k = omega arith in
+      let back : i + 1 + k ≡ n = omega arith in
+      let l = length-drop (i + 1) xs in
       let front : take i xs ≡ take i (take n xs) = sym (take-take i n xs (omega arith)) in
-      let kept = take i xs ++ drop 1 part in
-      let l = length-append (take i xs) (drop 1 part) in
-      let l1 = length-take-le i xs (omega arith) in
-      let l2 = ap length rest in
-      let l3 = length-drop (i + 1) (take n xs) in
-      let l4 = length-take-le n xs q in
-      let whole : take i xs ++ (ys ++ zs) ≡ kept ++ (take 1 part ++ zs) = ap (λ l. take i xs ++ (l ++ zs)) e ∙ ap (λ l. take i xs ++ l) (append_assoc (drop 1 part) (take 1 part) zs) ∙ sym (append_assoc (take i xs) (drop 1 part) (take 1 part ++ zs)) in
-      ap (take (n - 1)) whole ∙ take_at kept (take 1 part ++ zs) (n - 1) (omega arith) ∙ ap (λ l. l ++ drop 1 part) front ∙ ap (λ l. take i (take n xs) ++ l) (rest ∙ ap (λ k. drop k (take n xs)) (add-one i))
+      let rest : take k (drop (i + 1) xs) ≡ drop (suc i) (take n xs) = sym (drop-take (i + 1) k xs) ∙ ap (λ m. drop (i + 1) (take m xs)) back ∙ ap (λ m. drop m (take n xs)) (add-one i) in
+      ap (λ m. take m (copy_within xs (i + 1) n i)) end ∙ take-paste xs i (drop (i + 1) xs) k (omega arith) (omega arith) ∙ ap (λ l. l ++ take k (drop (i + 1) xs)) front ∙ ap (λ l. take i (take n xs) ++ l) rest
 
   -- the front of n changed element by element, and the rest as it was
   pub front_mapped : (f : X → X) (n k : ℕ) (xs ys : List X) → k ≡ n → n ≤ length xs → ys ≡ map f (take k xs) → (length (ys ++ drop k xs) ≡ length xs) × (take n (ys ++ drop k xs) ≡ map f (take n xs))

@@ -46,7 +46,7 @@ impl Row {
         requires { i < length (row self.old) }
         ensures { row self.new ≡ remove (row self.old) i }
     {
-        self.items[i..self.len].rotate_left(1);
+        self.items.copy_within(i + 1..self.len, i);
         self.len -= 1;
     }
 

@@ -1,4 +1,4 @@
-use Rattle.std.proofs.Common.{arith}
+use Rattle.std.proofs.Common.{◌-◌, take, ap, ◌∙◌, arith}
 use Rattle.std.proofs.lemmas.List.{length-take}
 use Rattle.packed.proofs.RowFacts.{moved}
 use Rattle.packed.proofs.row.Row.remove.Goals as goal
@@ -10,4 +10,4 @@ returns c =
     let h = length-take n xs in
     let w = c.args.self.now.whole in
     let f = c.args.self.now.fits in
-    moved xs c.rotate_left.new.self _ c.args.i n (omega arith) (omega arith) c.rotate_left.ensures.after
+    ap (take (n - 1)) c.copy_within.ensures.after ∙ moved xs c.args.i n (omega arith) (omega arith)
