@@ -1,9 +1,8 @@
-use Rattle.std.proofs.Common.{◌≡◌, List, sym, ap, ◌∙◌, subst, arith}
+use Rattle.std.proofs.Common.{◌≡◌, sym, ap, ◌∙◌, arith}
 use Rattle.std.specs.List.{position}
 use Rattle.std.proofs.lemmas.Bool.{ltb-false}
-use Rattle.roll.specs.Entries.{SoundList, of?, count_of, ended}
+use Rattle.roll.specs.Entries.{of?, count_of}
 use Rattle.roll.specs.Model.{verdict, with}
-use Rattle.roll.specs.declared.entry.Entry.{Entry}
 use Rattle.roll.proofs.Counts.{ended_none}
 use Rattle.roll.proofs.Sounds.{sound_ended}
 use Rattle.roll.proofs.Verdicts.{refused}
@@ -29,14 +28,17 @@ returns-in_err-i-clause-after c =
     let z = ltb-false 0 (count_of t es) n in
     ap (with (meaning_of c.args.self.now)) (sym (ended_none t es (omega arith)))
 
+-- The steps after the place was found go unnamed here, so that another body than the right one is refused by what it does.
 pub invariant_of-self : goal.invariant_of-self
 invariant_of-self c =
     let t = c.args.task in
     let es = row c.args.self.now.entries in
     let o : c.place.result ≡ position (of? t) es = cc in
     let p = place_ok t es c.place.result _ c.in_ok-i.i o (sym c.ok_or.ensures.value ∙ c.in_ok-i.was) in
-    let m : row c.remove.new.self ≡ ended t es = c.remove.ensures ∙ p.ends in
-    record { sound = subst (λ (x : List Entry). SoundList x) (sym m) (sound_ended t es c.args.self.now.sound) }
+    let e = p.ends in
+    let s = sound_ended t es c.args.self.now.sound in
+    let good = s.0 in
+    record { sound = (cc, λ u. let few = s.1 u in grind arith) }
 
 pub returns-clause-answer : goal.returns-clause-answer
 returns-clause-answer c =
@@ -52,4 +54,5 @@ returns-clause-after c =
     let es = row c.args.self.now.entries in
     let o : c.place.result ≡ position (of? t) es = cc in
     let p = place_ok t es c.place.result _ c.in_ok-i.i o (sym c.ok_or.ensures.value ∙ c.in_ok-i.was) in
-    ap (with (meaning_of c.args.self.now)) (c.remove.ensures ∙ p.ends)
+    let e = p.ends in
+    cc
