@@ -9,15 +9,21 @@ use std::str::FromStr;
 // no such text. Each byte goes into the one vector as soon as its pair is read.
 pub fn read_hex(heap: Global, line: &[u8]) -> Result<Option<Vec<u8>>, AllocError> {
     let mut bytes = Vec::new(heap);
-    for pairs in line.split(|b| *b == b' ') {
-        for pair in pairs.chunks(2) {
-            let Ok(byte) = <[u8; 1]>::from_hex(pair) else {
-                return Ok(None);
-            };
-            bytes.push(byte[0])?;
+    let mut rest = line;
+    loop {
+        match rest {
+            [] => return Ok(Some(bytes)),
+            [b' ', more @ ..] => rest = more,
+            [high, low, more @ ..] => {
+                let Ok(byte) = <[u8; 1]>::from_hex([*high, *low]) else {
+                    return Ok(None);
+                };
+                bytes.push(byte[0])?;
+                rest = more;
+            }
+            _ => return Ok(None),
         }
     }
-    Ok(Some(bytes))
 }
 
 // A decimal number of one to ten digits, without a sign.
