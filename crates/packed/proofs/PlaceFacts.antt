@@ -1,12 +1,11 @@
 -- The place of a task's oldest entry, and what is done there.
 use Rattle.std.proofs.Common.{◌≡◌, ℕ, suc, ◌+◌, ◌<◌, ◌≤◌, Bool, true, false, cond, ltb, List, [], ◌∷◌, length, get_or, set, Some, None, Option, Ok, Err, ◌⊎◌, inl, inr, sym, refl, ap, ◌∙◌, subst, arith}
-use mir.Val.{bool_byte}
-use Rattle.std.specs.List.{remove, position, position_or_len, sum_by}
+use Rattle.std.specs.List.{remove, position, position_or_len, count_by}
 use Rattle.std.specs.Option.{ok_or}
 use Rattle.std.proofs.lemmas.Bool.{cases_Bool, ltb-true}
 use Rattle.std.proofs.lemmas.Bool.Decides.{nat_tests}
 use Rattle.std.proofs.lemmas.List.{set_past}
-use Rattle.std.proofs.lemmas.List.Recursion.{is_sum_by, is_position_or_len}
+use Rattle.std.proofs.lemmas.List.Recursion.{is_count_by, is_position_or_len}
 use Rattle.roll.specs.Entries.{of?, count_of, ended, marking, marked, awake}
 use Rattle.roll.specs.declared.entry.Entry.{Entry}
 use Rattle.roll.specs.declared.entry.Refused.{Refused}
@@ -49,12 +48,8 @@ marking_none b t es p =
     sym (marking_at b t es) ∙ set_past es (place_of t es) (marked b (get_or es (place_of t es) (awake 0 0))) past
 
 -- ---- by the words of std
-pub count_is : (t : ℕ) (es : List Entry) → sum_by (λ e. bool_byte (of? t e)) es ≡ count_of t es
-count_is t es = sym (is_sum_by (count_of t) (λ e. bool_byte (of? t e)) refl (λ e es. one_more (of? t e) (count_of t es)) es)
-  where
-    one_more : (b : Bool) (n : ℕ) → cond b (suc n) n ≡ bool_byte b + n
-    one_more true n = omega arith
-    one_more false n = omega arith
+pub count_is : (t : ℕ) (es : List Entry) → count_of t es ≡ count_by (of? t) es
+count_is t = is_count_by (count_of t) (of? t) refl (λ e es. let z : suc (count_of t es) ≡ 1 + count_of t es = omega arith in ap (λ n. cond (of? t e) n (count_of t es)) z)
 
 place_same : (t : ℕ) (es : List Entry) → place_of t es ≡ position_or_len (of? t) es
 place_same t = is_position_or_len (place_of t) (of? t) refl (λ e es. let z : suc (place_of t es) ≡ 1 + place_of t es = omega arith in ap (λ n. cond (of? t e) 0 n) z)
