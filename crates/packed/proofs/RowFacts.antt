@@ -1,8 +1,8 @@
 -- The front of a list that stands in memory of a fixed size.
-use Rattle.std.proofs.Common.{◌≡◌, ℕ, zero, suc, ◌+◌, ◌-◌, ◌<◌, ◌≤◌, List, [], ◌∷◌, ◌++◌, map, length, take, drop, set, sym, refl, ap, ◌∙◌, add-one, append_assoc, arith}
+use Rattle.std.proofs.Common.{◌≡◌, ℕ, zero, suc, ◌+◌, ◌-◌, ◌<◌, ◌≤◌, List, [], ◌∷◌, ◌++◌, map, length, take, drop, set, sym, refl, ap, ◌∙◌, add-one, arith}
 use Rattle.std.specs.List.{remove, copy_within}
 use Rattle.std.proofs.lemmas.List.Edits.{take-paste}
-use Rattle.std.proofs.lemmas.List.{take_at, length-map, take-take, drop-take, drop-drop, length-drop, length-take-le, length-append}
+use Rattle.std.proofs.lemmas.List.{take_at, length-map, take-take, drop-take, length-drop, length-take-le, length-append}
 
 module _ {X : Type 0} where
   -- a write inside the front
