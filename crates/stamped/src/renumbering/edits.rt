@@ -39,7 +39,14 @@ impl Renumbering {
         ensures small { 0 < times_in stamp (noted self.now) → result < length (noted self.now) }
         ensures order { (s : ℕ) → 0 < times_in s (noted self.now) → s < stamp → below s (noted self.now) < result }
     {
-        let noted = &self.stamps[0..self.len];
-        noted.iter().map(|other| u16::from(*other < stamp)).sum()
+        smaller(&self.stamps[0..self.len], stamp)
     }
+}
+
+// How many of the stamps are smaller than this one.
+fn smaller(stamps: &[u16], stamp: u16) -> u16
+    requires { length stamps.now < 65536 }
+    ensures { result ≡ below stamp stamps.now }
+{
+    stamps.iter().map(|other| u16::from(*other < stamp)).sum()
 }
