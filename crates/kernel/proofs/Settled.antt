@@ -1,5 +1,5 @@
 -- From what a call did to what comes back from it.
-use Rattle.std.proofs.Common.{◌≡◌, ℕ, ◌+◌, ◌≤◌, Bool, true, false, cond, not, ltb, List, [], ◌∷◌, ◌++◌, length, filter, Ok, Err, None, Option, Result, sym, refl, ap, ◌∙◌, subst, arith}
+use Rattle.std.proofs.Common.{◌≡◌, ℕ, ◌+◌, ◌≤◌, Bool, true, false, cond, not, ltb, List, [], ◌∷◌, ◌++◌, length, filter, None, Option, sym, refl, ap, ◌∙◌, subst, arith}
 use Rattle.std.proofs.lemmas.Bool.{both_ways, cond-true, cond-false, le-ltb}
 use Rattle.std.proofs.lemmas.Bool.Decides.{nat_tests}
 use Rattle.std.proofs.lemmas.List.{append-nil, length-append}
@@ -17,7 +17,7 @@ use Rattle.rules.specs.Effects.{Effect, starting}
 use Rattle.rules.specs.Refusals.{Step, turn, settled, refused}
 use Rattle.rules.specs.Calls.{answered, called, Comes, Performed}
 use Rattle.kernel.specs.declared.effect.Effect.{Effect as Made}
-use Rattle.kernel.specs.Obeys.{Did, Stays, Begins, Works, start_checks, worked, coil_out_of_range}
+use Rattle.kernel.specs.Obeys.{Did, Stays, start_checks, worked, coil_out_of_range}
 
 -- the effect e was done, and then the turn was told behind its events
 pub settled_comes : {before mid after : Station} {given sheet left : List Event} {made : Made} {a : Answer} {code : Code} {e : Effect} (was : Option ℕ) →
@@ -83,14 +83,6 @@ pub coil_refused : (b : Setup) (s : State) (c : Call) → coil_out_of_range c �
 coil_refused b s (Issued m) e = absurd (both_ways _ refl e)
 coil_refused b s Tick e = absurd (both_ways _ refl e)
 coil_refused b s (Coil t) e = sym (cond-true (not (task_field t)) (refused s CoilRange) (answered (start_checks b s t) (settled s Done (starting s t None))) e)
-
--- and from one in range comes back what comes back from a start without a factor
-coil_begun : (b : Setup) (s : State) (t : ℕ) → coil_out_of_range (Coil t) ≡ false → answered (start_checks b s t) (settled s Done (starting s t None)) ≡ worked b s (Coil t)
-coil_begun b s t e = sym (cond-false (not (task_field t)) (refused s CoilRange) (answered (start_checks b s t) (settled s Done (starting s t None))) e)
-
-pub coil_works : (before after : Station) (t : ℕ) (given left : List Event) → coil_out_of_range (Coil t) ≡ false → (o : Result Made Answer) → Begins before t None given after o left → Works before (Coil t) given after o left
-coil_works before after t given left e (Ok made) h = (Done, starting before.state t None, h.0 ∙ coil_begun before.setup before.state t e, h.1)
-coil_works before after t given left e (Err a) h = subst (λ (k : Step). Comes k before given after a left) (coil_begun before.setup before.state t e) h
 
 -- a removal that takes nothing leaves what there was
 pub none_taken : {P : Type 0} (m : P → Bool) (ps : List P) → length (filter m ps) ≡ 0 → filter (λ p. not (m p)) ps ≡ ps

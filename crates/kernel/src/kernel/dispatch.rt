@@ -1,6 +1,6 @@
 //! From a call to what is done: the checks that are common to all, and then each macro's own.
 
-ghost use Rattle.std.specs.Prelude.{◌≡◌, true, false};
+ghost use Rattle.std.specs.Prelude.{◌≡◌, true};
 ghost use Rattle.rules.specs.declared.answer.Code.TheVariants.{FieldRange as FieldRangeOf};
 ghost use Rattle.rules.specs.declared.call.Call.TheVariants.{Macro as MacroOf};
 ghost use Rattle.roll.specs.Model.{first_in};
@@ -10,7 +10,7 @@ ghost use Rattle.rules.specs.Calls.{Performed};
 ghost use Rattle.kernel.specs.Views.{seen};
 ghost use Rattle.kernel.specs.Obeys.{Did, Obeys, Works, coil_out_of_range};
 
-use crate::effect::Effect;
+use crate::effect::{Effect, check};
 use crate::kernel::Kernel;
 use numbers::{Factor, Level, Task};
 use roll::Roll;
@@ -97,13 +97,15 @@ impl<R: Roll> Kernel<R> {
         sheet: &mut [Event; LEAST_SHEET],
     ) -> Result<Effect, Answer>
         requires was { was ≡ first_in (seen R.Roll.meaning R.Roll.LEVER self.old).state.tasks.roll }
-        requires range { coil_out_of_range call ≡ false }
         ensures { Works (seen R.Roll.meaning R.Roll.LEVER self.old) call sheet.old (seen R.Roll.meaning R.Roll.LEVER self.new) result sheet.new }
     {
         match call {
             Call::Macro(m) => self.issue(m, was, sheet),
             Call::Tick => Ok(Effect::telling(self.beat(sheet))),
-            Call::Coil { task } => self.begin(task, None, sheet),
+            Call::Coil { task } => {
+                check(!is_task_field(task), Code::CoilRange)?;
+                self.begin(task, None, sheet)
+            }
         }
     }
 
@@ -127,7 +129,8 @@ impl<R: Roll> Kernel<R> {
     }
 }
 
-// Whether a call is a coil whose task is out of range. This alone is asked before anybody looks who has the processor.
+// Whether a call is a coil whose task is out of range. This alone is asked before anybody looks who has the processor,
+// and once more among the checks of a call, which stand whole behind that.
 fn is_coil_out_of_range(call: Call) -> bool
     ensures { result ≡ coil_out_of_range call }
 {
